@@ -1,0 +1,12 @@
+use Rattle.std.proofs.Common.{rules, arith}
+use Rattle.std.proofs.lemmas.Grind.{common_steps}
+use Rattle.mz_base.specs.Lines.{lines_of}
+use Rattle.mz_base.proofs.line.cut_lines.Goals as goal
+
+pub returns-then-is_empty : goal.returns-then-is_empty
+unfolding lines_of
+returns-then-is_empty c = search rules
+
+pub returns : goal.returns
+unfolding lines_of
+returns c = search rules

@@ -1,0 +1,20 @@
+//! What every crate shares: texts, lines and numbers of files, rows read line by line, romaji rules, faults,
+//! statuses, and the types of a report. Start at [`Text`], [`cut_lines`] and [`Romaji`].
+//! What a line, a field, a number and a rule mean: specs/, and docs/FORMATS.md.
+#![tactic(auto)]
+
+mod fault;
+mod line;
+mod memory;
+mod romaji;
+mod rows;
+mod seq;
+mod text;
+
+pub use fault::{Fault, FaultKind, ReadError, Role};
+pub use line::{cut_fields, cut_lines, text_of_line};
+pub use memory::NoMemory;
+pub use romaji::{Romaji, Rule, RuleView};
+pub use rows::{RowReader, read_rows};
+pub use seq::Seq;
+pub use text::Text;
