@@ -3,18 +3,26 @@
 //! What a line, a field, a number and a rule mean: specs/, and docs/FORMATS.md.
 #![tactic(auto)]
 
+mod event;
 mod fault;
-mod line;
+mod lines;
 mod memory;
+mod numbers;
+mod report;
 mod romaji;
 mod rows;
 mod seq;
+mod status;
 mod text;
 
+pub use event::{Event, Outcome};
 pub use fault::{Fault, FaultKind, ReadError, Role};
-pub use line::{cut_fields, cut_lines, text_of_line};
+pub use lines::{cut_fields, cut_lines, text_of_line};
 pub use memory::NoMemory;
+pub use numbers::{MOST_DIGITS, number};
+pub use report::{Line, Mode, Word};
 pub use romaji::{Romaji, Rule, RuleView};
 pub use rows::{RowReader, read_rows};
 pub use seq::Seq;
+pub use status::{BadSet, CertFault, Limit, Status};
 pub use text::Text;

@@ -1,7 +1,7 @@
 use Rattle.std.proofs.Common.{rules, arith}
 use Rattle.std.proofs.lemmas.Grind.{common_steps}
 use Rattle.mz_base.specs.Lines.{lines_of}
-use Rattle.mz_base.proofs.line.cut_lines.Goals as goal
+use Rattle.mz_base.proofs.lines.cut_lines.Goals as goal
 
 pub returns-then-is_empty : goal.returns-then-is_empty
 unfolding lines_of

@@ -5,7 +5,7 @@ use Rattle.std.proofs.lemmas.Iterator.{YieldsList-from_map_by, YieldsList-from_s
 use Rattle.std.proofs.lemmas.Iterator.Consumers.{map_from_collect}
 use Rattle.std.proofs.lemmas.Result.{IfOk-at_ok}
 use Rattle.mz_base.specs.Lines.{lines_in, pointed}
-use Rattle.mz_base.proofs.line.parts_of.Goals as goal
+use Rattle.mz_base.proofs.lines.parts_of.Goals as goal
 
 map-pointed : (f : List ℕ → List ℕ) (parts : List (Bor (List ℕ))) → map (λ (part : Bor (List ℕ)). f part.now) parts ≡ map f (pointed parts)
 map-pointed f [] = refl

@@ -2,7 +2,7 @@ use Rattle.std.proofs.Common.{◌==◌, rules, tests}
 use Rattle.std.proofs.lemmas.Iterator.Consumers.{map_from_collect}
 use Rattle.std.proofs.lemmas.Iterator.Splits.{YieldsList-from_slice_split}
 use Rattle.std.proofs.lemmas.Result.{IfOk-at_ok}
-use Rattle.mz_base.proofs.line.cut_at_feeds.Goals as goal
+use Rattle.mz_base.proofs.lines.cut_at_feeds.Goals as goal
 
 pub returns : goal.returns
 returns c =

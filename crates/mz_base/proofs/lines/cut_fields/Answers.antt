@@ -2,7 +2,7 @@ use Rattle.std.proofs.Common.{lit<}
 use Rattle.std.proofs.lemmas.Iterator.Consumers.{map_from_collect}
 use Rattle.std.proofs.lemmas.Iterator.Splits.{YieldsList-from_str_split}
 use Rattle.std.proofs.lemmas.Result.{IfOk-at_ok}
-use Rattle.mz_base.proofs.line.cut_fields.Goals as goal
+use Rattle.mz_base.proofs.lines.cut_fields.Goals as goal
 
 pub returns : goal.returns
 returns c =

@@ -1,0 +1,37 @@
+ghost use Rattle.std.specs.Prelude.{◌≡◌, ◌≤◌, ◌<◌, ◌^◌, IfSome};
+ghost use Rattle.std.specs.Char.{is_ascii_digit};
+ghost use Rattle.std.specs.List.{list_all};
+ghost use Rattle.mz_base.specs.Numbers.{is_numeral, number_of, unsigned_of};
+
+/// The most digits of a number that is no potential and no total of a certificate.
+pub const MOST_DIGITS: usize = 10;
+
+/// The number that one to ten decimal digits write. Leading zeros are read.
+pub fn number(text: &str) -> Option<u64>
+    ensures { result ≡ number_of text.now }
+{
+    unsigned(text, MOST_DIGITS)
+}
+
+fn unsigned(text: &str, most: usize) -> Option<u64>
+    requires { most ≤ 18 }
+    ensures value { result ≡ unsigned_of most text.now }
+    ensures small { IfSome result (λ n. n < 10 ^ 18) }
+{
+    if !is_numeral(text, most) {
+        return None;
+    }
+    text.parse().ok()
+}
+
+fn is_numeral(text: &str, most: usize) -> bool
+    ensures { result ≡ is_numeral most text.now }
+{
+    1 <= text.len() && text.len() <= most && are_digits(text)
+}
+
+fn are_digits(text: &str) -> bool
+    ensures { result ≡ list_all is_ascii_digit text.now }
+{
+    text.bytes().all(|b| b.is_ascii_digit())
+}
