@@ -1,2 +1,4 @@
+pub mod Found
 pub mod NumberLemmas
 pub mod RowSteps
+pub mod Turns

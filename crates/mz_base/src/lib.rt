@@ -1,10 +1,11 @@
 //! What every crate shares: texts, lines and numbers of files, rows read line by line, romaji rules, faults,
 //! statuses, and the types of a report. Start at [`Text`], [`cut_lines`] and [`Romaji`].
-//! What a line, a field, a number and a rule mean: specs/, and docs/FORMATS.md.
+//! What a line, a field, a number and a rule mean: specs/, and docs/FORMATS.md. What follows from it: src/laws.rt.
 #![tactic(auto)]
 
 mod event;
 mod fault;
+mod laws;
 mod lines;
 mod memory;
 mod numbers;
@@ -17,6 +18,7 @@ mod text;
 
 pub use event::{Event, Outcome};
 pub use fault::{Fault, FaultKind, ReadError, Role};
+pub use laws::{finish_goes_on, kana_goes_on, kana_waits, longest_is_longest};
 pub use lines::{cut_fields, cut_lines, text_of_line};
 pub use memory::NoMemory;
 pub use numbers::{MOST_DIGITS, number};

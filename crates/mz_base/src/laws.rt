@@ -1,0 +1,39 @@
+//! What follows from the definitions of specs/Kana.antt, for all rules and all texts.
+//! A caller of these learns them; nothing runs.
+
+ghost use Rattle.std.specs.Prelude.{◌≡◌, ◌↔◌, ℕ, ◌<◌, ◌≤◌, IsTrue, true, false, List, [], ◌++◌, Some, None, length};
+ghost use Rattle.std.specs.List.{Contains};
+ghost use Rattle.mz_base.specs.Kana.{AreRules, fits, longest, turn, after_output, waits, kana, finish};
+ghost use Rattle.mz_base.specs.declared.romaji.Rule.{Rule};
+
+/// Where nothing is typed, or more may come, nothing is shown yet and the text is pending.
+pub fn kana_waits()
+    ensures { (rules : List Rule) (text : List ℕ) → IsTrue (waits rules text) →
+        kana rules text ≡ record { output = []; pending = text } }
+{}
+
+/// Any other text gives a turn's output, and then the kana of what the turn leaves.
+pub fn kana_goes_on()
+    ensures { (rules : List Rule) (text : List ℕ) → AreRules rules → waits rules text ≡ false →
+        let step = turn (longest rules text) text in
+        kana rules text ≡ after_output step.output (kana rules step.pending) }
+{}
+
+/// Of no text the finished text is empty; any other gives a turn's output, and then the finished text of what the
+/// turn leaves.
+pub fn finish_goes_on()
+    ensures ends { (rules : List Rule) → finish rules [] ≡ [] }
+    ensures goes_on { (rules : List Rule) (text : List ℕ) → AreRules rules → 0 < length text →
+        let step = turn (longest rules text) text in
+        finish rules text ≡ step.output ++ finish rules step.pending }
+{}
+
+/// The longest rule is one of the rules, it fits, and none that fits is longer. There is none exactly where no rule
+/// fits.
+pub fn longest_is_longest()
+    ensures one_of { (rules : List Rule) (text : List ℕ) (rule : Rule) → longest rules text ≡ Some rule → Contains rules rule }
+    ensures fits { (rules : List Rule) (text : List ℕ) (rule : Rule) → longest rules text ≡ Some rule → IsTrue (fits text rule) }
+    ensures none_longer { (rules : List Rule) (text : List ℕ) (rule other : Rule) → longest rules text ≡ Some rule →
+        Contains rules other → IsTrue (fits text other) → length other.input ≤ length rule.input }
+    ensures none { (rules : List Rule) (text : List ℕ) → (longest rules text ≡ None) ↔ ((rule : Rule) → Contains rules rule → fits text rule ≡ false) }
+{}
