@@ -1,6 +1,7 @@
 pub mod Answers
 pub mod Faults
 pub mod Kana
+pub mod Latest
 pub mod Lines
 pub mod Numbers
 pub mod Reports

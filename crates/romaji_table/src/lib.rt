@@ -1,0 +1,7 @@
+//! Romaji tables: a file of rules, and the longest rule that begins a text. Start at [`read`] and [`Table`].
+//! What a file gives: specs/Rows.antt, and docs/FORMATS.md. What rules mean: `mz_base`, specs/Kana.antt.
+#![tactic(auto)]
+
+mod row;
+
+pub use row::{MOST_FIELD_BYTES, MOST_ROWS, RuleReader};
