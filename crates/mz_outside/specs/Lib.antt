@@ -1,2 +1,5 @@
 pub mod Causes
+pub mod FileList
+pub mod Memory
+pub mod Plan
 pub mod Taken
