@@ -15,10 +15,14 @@ pub record FaultPlan : Type 0 where
 abbrev pub next_fails : FaultPlan → Bool
 next_fails plan = list_any (λ call. call == one_more plan.calls) plan.failing
 
+-- a call is counted
+abbrev pub with_call : FaultPlan → FaultPlan
+with_call plan = record plan { calls = one_more plan.calls }
+
 -- a fault is counted
 abbrev pub with_fault : FaultPlan → FaultPlan
 with_fault plan = record plan { faults = one_more plan.faults }
 
--- a call is counted, and its fault
+-- a call is counted, and its fault where one is planned
 abbrev pub after_call : FaultPlan → FaultPlan
-after_call plan = record plan { calls = one_more plan.calls; faults = if next_fails plan then one_more plan.faults else plan.faults }
+after_call plan = if next_fails plan then with_fault (with_call plan) else with_call plan
