@@ -1,0 +1,6 @@
+pub mod Causes
+pub mod FileList
+pub mod Front
+pub mod Memory
+pub mod Plan
+pub mod Taken

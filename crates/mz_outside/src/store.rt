@@ -1,0 +1,54 @@
+//! Files that are read whole, by name.
+ghost use Rattle.std.specs.Prelude.{◌≡◌, ℕ, ◌≤◌, List, Option, IfOk, IfSome, OnOk, IsErrOf};
+ghost use Rattle.mz_outside.specs.Causes.{Rose};
+ghost use Rattle.mz_outside.specs.declared.store.StoreFault.TheVariants.{NoMemory};
+
+use std::alloc::{AllocError, AllocFailed};
+
+/// Why a file was not read.
+#[derive(Clone, Copy, Debug, PartialEq, Eq)]
+pub enum StoreFault {
+    /// There is no file of this name.
+    Absent,
+    /// The store failed, and may answer otherwise another time.
+    Failed,
+    NoMemory,
+}
+
+impl From<AllocError> for StoreFault {
+    ghost from_gives = { λ _ e. e ≡ NoMemory };
+
+    fn from(_: AllocError) -> Self {
+        StoreFault::NoMemory
+    }
+}
+
+impl<T: Drop> From<AllocFailed<T>> for StoreFault {
+    ghost from_gives = { λ _ e. e ≡ NoMemory };
+
+    fn from(_: AllocFailed<T>) -> Self {
+        StoreFault::NoMemory
+    }
+}
+
+/// Files by name, and a count of what failed. A name is the bytes of its text.
+pub trait Store {
+    /// The bytes of each file that there is, where the store tells its files.
+    ghost files: { Self → Option (List ℕ → Option (List ℕ)) };
+
+    /// How often a read has failed.
+    ghost faults: { Self → ℕ };
+
+    /// All the bytes of a file.
+    fn read(&mut self, name: &str) -> Result<Vec<u8>, StoreFault>
+        ensures told { IfOk result (λ bytes. IfSome (files self.old) (λ named. named name.now ≡ Some bytes.items)) }
+        ensures absent { IsErrOf result StoreFault.Absent → IfSome (files self.old) (λ named. named name.now ≡ None) }
+        ensures same { files self.new ≡ files self.old }
+
+        // Each failed read is counted, and nothing else is.
+        ensures later { faults self.old ≤ faults self.new }
+        ensures failed { IsErrOf result StoreFault.Failed → Rose (faults self.old) (faults self.new) }
+        ensures ok_count { OnOk result (faults self.new ≡ faults self.old) }
+        ensures absent_count { IsErrOf result StoreFault.Absent → faults self.new ≡ faults self.old }
+        ensures memory_count { IsErrOf result StoreFault.NoMemory → faults self.new ≡ faults self.old };
+}
