@@ -1,0 +1,4 @@
+pub mod ManifestAnswers
+pub mod Manifests
+pub mod ScriptAnswers
+pub mod Scripts

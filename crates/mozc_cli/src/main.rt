@@ -1,0 +1,7 @@
+//! The Sockflint program: runs a manifest's client and writes the report. Start at [`local`].
+#![tactic(auto)]
+
+mod manifest;
+mod script;
+
+fn main() {}
