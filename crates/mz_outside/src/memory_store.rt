@@ -1,5 +1,5 @@
 //! A store in memory.
-ghost use Rattle.std.specs.Prelude.{◌≡◌, ℕ, ◌≤◌, List, [], ◌∷◌, ◌++◌, Some, OnOk, OnErr};
+ghost use Rattle.std.specs.Prelude.{◌≡◌, [], ◌∷◌, ◌++◌, Some, OnOk, OnErr};
 ghost use Rattle.mz_outside.specs.FileList.{file_named};
 ghost use Rattle.mz_outside.specs.Plan.{after_call};
 ghost use Rattle.mz_outside.specs.Memory.{StoreInMemory, Reads};

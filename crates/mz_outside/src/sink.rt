@@ -1,5 +1,5 @@
 //! Bytes that go out, in pieces.
-ghost use Rattle.std.specs.Prelude.{◌≡◌, ℕ, ◌<◌, ◌≤◌, List, length, take, drop, Option, IfOk, OnOk, OnErr};
+ghost use Rattle.std.specs.Prelude.{◌≡◌, ℕ, ◌<◌, ◌≤◌, List, length, take, Option, IfOk, OnOk, OnErr};
 ghost use Rattle.mz_outside.specs.Causes.{Rose};
 ghost use Rattle.mz_outside.specs.Taken.{with_more, AddsFront};
 

@@ -1,4 +1,4 @@
-ghost use Rattle.std.specs.Prelude.{◌≡◌, ◌≢◌, List, ℕ, Some, None, IfSome};
+ghost use Rattle.std.specs.Prelude.{◌≡◌, ◌≢◌, List, ℕ, IfSome};
 ghost use Rattle.mz_outside.specs.Causes.{Rose};
 ghost use Rattle.mz_outside.specs.Taken.{with_more, AddsFront};
 
