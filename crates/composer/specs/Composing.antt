@@ -1,0 +1,46 @@
+-- A text that is being composed, and what each key makes of it: docs/FORMATS.md, "Composition".
+use Rattle.std.specs.Prelude.{ℕ, ◌+◌, ◌-◌, ◌==◌, List, [], ◌∷◌, ◌++◌, if◌then◌else◌, length, take}
+use Rattle.mz_base.specs.Kana.{kana, finish}
+use Rattle.mz_base.specs.declared.romaji.Rule.{Rule}
+
+-- fixed text before the cursor, the run of characters typed there, and fixed text after it
+pub record Composing : Type 0 where
+  pub left : List ℕ
+  pub run : List ℕ
+  pub right : List ℕ
+
+-- a text between the fixed ones
+abbrev pub between_fixed : Composing → List ℕ → List ℕ
+between_fixed c middle = c.left ++ (middle ++ c.right)
+
+-- what is shown: the run as its kana and what is pending
+abbrev pub preedit_of : List Rule → Composing → List ℕ
+preedit_of rules c = between_fixed c ((kana rules c.run).output ++ (kana rules c.run).pending)
+
+-- what is shown, without what is pending
+abbrev pub base_of : List Rule → Composing → List ℕ
+base_of rules c = between_fixed c (kana rules c.run).output
+
+-- the text as it is, should no more be typed
+abbrev pub reading_of : List Rule → Composing → List ℕ
+reading_of rules c = between_fixed c (finish rules c.run)
+
+-- how many of the shown characters stand before the cursor: all but the fixed text after it
+abbrev pub cursor_of : List Rule → Composing → ℕ
+cursor_of rules c = length c.left + (length (kana rules c.run).output + length (kana rules c.run).pending)
+
+-- a character goes to the end of the run
+abbrev pub inserted : Composing → ℕ → Composing
+inserted c letter = record c { run = c.run ++ letter ∷ [] }
+
+-- a text less its last character, if it has one
+abbrev pub without_last : List ℕ → List ℕ
+without_last text = take (length text - 1) text
+
+-- The kana become fixed. What is pending stays as the run, less its last character; where nothing is pending, the
+-- fixed text before the cursor loses its last.
+abbrev pub backspaced : List Rule → Composing → Composing
+backspaced rules c =
+    let pending = (kana rules c.run).pending in
+    let left = c.left ++ (kana rules c.run).output in
+    record c { left = (if length pending == 0 then without_last left else left); run = without_last pending }

@@ -1,0 +1,8 @@
+//! A text that is being composed: romaji is typed, kana is shown. Start at [`Composer`].
+//! What each key makes of it: specs/Composing.antt, and docs/FORMATS.md.
+#![tactic(auto)]
+
+mod composer;
+mod shown;
+
+pub use composer::{Composer, InsertError, MOST_SHOWN};
