@@ -2,6 +2,9 @@
 //! What a file gives: specs/Rows.antt, and docs/FORMATS.md. What rules mean: `mz_base`, specs/Kana.antt.
 #![tactic(auto)]
 
+mod index;
 mod row;
+mod table;
 
 pub use row::{MOST_FIELD_BYTES, MOST_ROWS, RuleReader};
+pub use table::Table;
