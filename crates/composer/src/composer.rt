@@ -39,6 +39,18 @@ impl Composer {
         }
     }
 
+    /// A composer of the same texts.
+    pub fn copy(&self) -> Result<Composer, NoMemory>
+        ensures { IfOk result (λ copy. copy ≡ self.now) }
+    {
+        Ok(Composer {
+            alloc: self.alloc,
+            left: Vec::from_slice(self.alloc, self.left.as_slice())?,
+            run: Vec::from_slice(self.alloc, self.run.as_slice())?,
+            right: Vec::from_slice(self.alloc, self.right.as_slice())?,
+        })
+    }
+
     /// Types a character at the cursor.
     pub fn insert<R: Romaji>(&mut self, table: &R, c: char) -> Result<(), InsertError>
         ensures ok { OnOk result (self.new ≡ inserted self.old c) }

@@ -2,3 +2,4 @@ pub mod ManifestAnswers
 pub mod Manifests
 pub mod ScriptAnswers
 pub mod Scripts
+pub mod Sessions

@@ -3,5 +3,6 @@
 
 mod manifest;
 mod script;
+mod session;
 
 fn main() {}
