@@ -1,5 +1,5 @@
 -- What the files of a run mean, or the first refusal in the order of work: docs/FORMATS.md, "Order of work".
-use Rattle.std.specs.Prelude.{◌≡◌, ⊤, ℕ, ◌&&◌, Bool, not, List, [], Option, Some, None, Result, Ok, Err, if◌then◌else◌, length, nat_lt, min, encode_utf8_all}
+use Rattle.std.specs.Prelude.{◌≡◌, ⊤, ℕ, ◌&&◌, Bool, List, [], Option, Some, None, Result, Ok, Err, if◌then◌else◌, length, nat_lt, min, encode_utf8_all}
 use Rattle.std.specs.List.{list_any}
 use Rattle.std.specs.Str.{chars, is_utf8}
 use Rattle.mz_base.specs.Answers.{◌>>=◌}
@@ -8,9 +8,11 @@ use Rattle.mz_base.specs.Rows.{rows_after}
 use Rattle.mz_base.specs.declared.fault.FaultKind.{FaultKind}
 use Rattle.mz_base.specs.declared.fault.FaultKind.TheVariants.{NotUtf8, Fields, Empty, Class, Number, Range, NoFeature, LongPending, Limit, Size, Count}
 use Rattle.mz_base.specs.declared.romaji.Rule.{Rule}
-use Rattle.romaji_table.specs.Rows.{is_skipped, romaji_rows}
+use Rattle.romaji_table.specs.Rows.{romaji_rows}
 use Rattle.mozc_cli.specs.Manifests.{manifest_of}
 use Rattle.mozc_cli.specs.Scripts.{script_after}
+use Rattle.mozc_cli.specs.declared.manifest.Manifest.{Manifest}
+use Rattle.mozc_cli.specs.declared.script.Command.{Command}
 use Rattle.mozc_cli.specs.declared.refusal.Refusal.{Refusal}
 use Rattle.mozc_cli.specs.declared.refusal.Refusal.TheVariants as refusal
 use Rattle.mozc_cli.specs.declared.world.TheConstants.{MOST_FILE_BYTES, MOST_FIELD_CHARS}
@@ -37,9 +39,9 @@ in_file name (Err line) = Err (refusal.Unbuilt name line)
 abbrev pub is_wide : List ℕ → Bool
 is_wide field = nat_lt MOST_FIELD_CHARS (length (chars field))
 
--- a row of a romaji file with such a field
+-- a row of a romaji file, which has two fields or more, with such a field
 abbrev pub has_wide : List ℕ → Bool
-has_wide line = is_utf8 line && (not (is_skipped line) && list_any is_wide (fields_of line))
+has_wide line = is_utf8 line && (nat_lt 1 (length (fields_of line)) && list_any is_wide (fields_of line))
 
 -- the line of the first such row
 abbrev pub wide_row : List (Unit {0}) → ℕ → List ℕ → Result (Option (Unit {0})) FaultKind
@@ -70,15 +72,22 @@ first_line (Err fault) (Err wide) = Err (min (line_of fault) (line_of wide))
 unfoldable pub rules_of : List ℕ → Result (List Rule) ℕ
 rules_of bytes = first_line (romaji_rows bytes) (rows_after wide_row [] 1 (lines_of bytes))
 
+-- the manifest in a file, the commands in a script, and the rules in a romaji file
+unfoldable pub manifest_in : Files → List ℕ → Result Manifest Refusal
+manifest_in files name = file files name >>= (λ bytes. in_file name (manifest_of (lines_of bytes)))
+
+unfoldable pub script_in : Files → List ℕ → Result (List Command) Refusal
+script_in files name = file files name >>= (λ bytes. in_file name (script_after [] 1 (lines_of bytes)))
+
+unfoldable pub table_in : Files → List ℕ → Result (List Rule) Refusal
+table_in files name = file files name >>= (λ bytes. in_file name (rules_of bytes))
+
 -- What the files mean: the manifest is read, then the script, then the romaji table.
 unfoldable pub world : Files → List ℕ → Result World Refusal
 world files name = do
-  manifest_bytes ← file files name
-  manifest ← in_file name (manifest_of (lines_of manifest_bytes))
-  script_bytes ← file files manifest.script
-  commands ← in_file manifest.script (script_after [] 1 (lines_of script_bytes))
-  romaji_bytes ← file files manifest.romaji
-  rules ← in_file manifest.romaji (rules_of romaji_bytes)
+  manifest ← manifest_in files name
+  commands ← script_in files manifest.script
+  rules ← table_in files manifest.romaji
   Ok (record { user = manifest.user; client = manifest.client; table = rules; commands = commands })
 
 -- a refusal is the definition's, unless a read failed or memory ran out

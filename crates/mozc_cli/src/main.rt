@@ -2,7 +2,9 @@
 #![tactic(auto)]
 
 mod manifest;
+mod refusal;
 mod script;
 mod session;
+mod world;
 
 fn main() {}

@@ -1,11 +1,16 @@
-ghost use Rattle.std.specs.Prelude.{◌≡◌, ◌≤◌, ℕ, List, [], Option, Some, Err, IfOk, ◌→◌};
+ghost use Rattle.std.specs.Prelude.{◌≡◌, ◌≢◌, ◌≤◌, ℕ, List, [], Option, Some, None, Err, IfOk};
+ghost use Rattle.std.specs.List.{list_any};
+ghost use Rattle.mz_base.specs.Lines.{pointed};
 ghost use Rattle.mz_outside.specs.Causes.{Rose};
-ghost use Rattle.mozc_cli.specs.Worlds.{Files, Tells, file, within, in_file, is_wide, has_wide, line_of, first_line, rules_of, world};
+ghost use Rattle.mozc_cli.specs.WorldAnswers.{IsLine, GivesTable};
+ghost use Rattle.mozc_cli.specs.Worlds.{Files, Tells, IsRefusal, file, within, is_wide, has_wide, line_of, rules_of, manifest_in, script_in, table_in, world};
 
 use crate::manifest::{Manifest, ManifestError, read_manifest};
 use crate::refusal::Refusal;
 use crate::script::{Command, ScriptError, read_script};
-use mz_base::{FaultKind, NoMemory, ReadError, RowReader, Seq, Text, cut_fields, read_rows, text_of_line};
+use mz_base::{
+    FaultKind, NoMemory, ReadError, RowReader, Seq, Text, cut_fields, read_rows, text_of_line,
+};
 use mz_outside::{Store, StoreFault};
 use romaji_table::Table;
 use std::alloc::Global;
@@ -44,11 +49,8 @@ pub fn read_world<S: Store>(alloc: Global, store: &mut S, name: &Text) -> Result
     })
 }
 
-fn manifest_in<S: Store>(
-    alloc: Global,
-    store: &mut S,
-    name: &Text,
-) -> Result<Manifest, Refusal>
+#[tactic(auto, unfolding(crate::specs::Worlds::manifest_in))]
+fn manifest_in<S: Store>(alloc: Global, store: &mut S, name: &Text) -> Result<Manifest, Refusal>
     ensures told { (files : Files) → S.files store.old ≡ Some files → Tells (λ manifest. manifest) result (manifest_in files name.now) }
     ensures same { S.files store.new ≡ S.files store.old }
     ensures later { S.faults store.old ≤ S.faults store.new }
@@ -62,11 +64,8 @@ fn manifest_in<S: Store>(
     }
 }
 
-fn script_in<S: Store>(
-    alloc: Global,
-    store: &mut S,
-    name: &Text,
-) -> Result<Vec<Command>, Refusal>
+#[tactic(auto, unfolding(crate::specs::Worlds::script_in))]
+fn script_in<S: Store>(alloc: Global, store: &mut S, name: &Text) -> Result<Vec<Command>, Refusal>
     ensures told { (files : Files) → S.files store.old ≡ Some files → Tells (λ commands. commands.items) result (script_in files name.now) }
     ensures same { S.files store.new ≡ S.files store.old }
     ensures later { S.faults store.old ≤ S.faults store.new }
@@ -80,6 +79,7 @@ fn script_in<S: Store>(
     }
 }
 
+#[tactic(auto, unfolding(crate::specs::Worlds::table_in))]
 fn table_in<S: Store>(alloc: Global, store: &mut S, name: &Text) -> Result<Table, Refusal>
     ensures told { (files : Files) → S.files store.old ≡ Some files → Tells (λ table. table) result (table_in files name.now) }
     ensures same { S.files store.new ≡ S.files store.old }
@@ -184,5 +184,44 @@ impl RowReader for WideRows {
             return Err(FaultKind::Limit(number).into());
         }
         Ok(None)
+    }
+}
+
+fn has_wide(alloc: Global, line: &[u8]) -> Result<bool, NoMemory>
+    ensures { IfOk result (λ wide. wide ≡ has_wide line.now) }
+{
+    let Some(text) = text_of_line(line) else {
+        return Ok(false);
+    };
+    let fields = cut_fields(alloc, text)?;
+    Ok(1 < fields.len() && any_wide(fields.as_slice()))
+}
+
+fn any_wide(fields: &[&str]) -> bool
+    ensures { result ≡ list_any is_wide (pointed fields.now) }
+{
+    fields.iter().any(|field| is_wide(field))
+}
+
+fn is_wide(field: &str) -> bool
+    ensures { result ≡ is_wide field.now }
+{
+    MOST_FIELD_CHARS < field.chars().count()
+}
+
+fn line_of(kind: FaultKind) -> u64
+    ensures { result ≡ line_of kind }
+{
+    match kind {
+        FaultKind::NotUtf8(line)
+        | FaultKind::Fields(line)
+        | FaultKind::Empty(line)
+        | FaultKind::Class(line)
+        | FaultKind::Number(line)
+        | FaultKind::Range(line)
+        | FaultKind::NoFeature(line)
+        | FaultKind::LongPending(line)
+        | FaultKind::Limit(line) => line,
+        FaultKind::Size | FaultKind::Count { .. } => 1,
     }
 }

@@ -1,4 +1,5 @@
 pub mod Found
 pub mod NumberLemmas
+pub mod RowFacts
 pub mod RowSteps
 pub mod Turns

@@ -1,2 +1,4 @@
 pub mod InputOrder
+pub mod LatestRules
+pub mod LatestSteps
 pub mod LongestRule

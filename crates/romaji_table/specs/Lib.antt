@@ -1,3 +1,4 @@
 pub mod Columns
 pub mod Index
+pub mod Repeats
 pub mod Rows

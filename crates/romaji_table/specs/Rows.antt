@@ -1,7 +1,7 @@
 -- The rows of a romaji table: docs/FORMATS.md, "Romaji".
 use Rattle.std.specs.Prelude.{ℕ, ◌==◌, ◌&&◌, ◌||◌, Bool, true, not, List, [], ◌∷◌, Option, Some, None, Result, Ok, Err, if◌then◌else◌, length, nat_lt, nat_le}
 use Rattle.std.specs.List.{list_any}
-use Rattle.std.specs.Str.{chars, is_utf8, bytes_eq}
+use Rattle.std.specs.Str.{chars, is_utf8}
 use Rattle.mz_base.specs.Answers.{◌>>=◌}
 use Rattle.mz_base.specs.Latest.{latest}
 use Rattle.mz_base.specs.Lines.{lines_of, fields_of}
@@ -9,6 +9,7 @@ use Rattle.mz_base.specs.Rows.{rows_after}
 use Rattle.mz_base.specs.declared.romaji.Rule.{Rule}
 use Rattle.mz_base.specs.declared.fault.FaultKind.{FaultKind}
 use Rattle.mz_base.specs.declared.fault.FaultKind.TheVariants.{NotUtf8, Fields, Empty, LongPending, Limit}
+use Rattle.romaji_table.specs.Repeats.{same_input}
 use Rattle.romaji_table.specs.declared.row.TheConstants.{MOST_ROWS, MOST_FIELD_BYTES}
 
 -- an empty line, and a line that begins with # and has no tab, give no row
@@ -60,4 +61,4 @@ romaji_row rows number line =
 -- the rules of a file, of repeated inputs the last; or the first fault
 abbrev pub romaji_rows : List ℕ → Result (List Rule) FaultKind
 romaji_rows bytes =
-    rows_after romaji_row [] 1 (lines_of bytes) >>= (λ rows. Ok (latest (λ rule other. bytes_eq rule.input other.input) rows))
+    rows_after romaji_row [] 1 (lines_of bytes) >>= (λ rows. Ok (latest same_input rows))

@@ -3,8 +3,11 @@
 #![tactic(auto)]
 
 mod index;
+mod reader;
+mod repeats;
 mod row;
 mod table;
 
+pub use reader::read;
 pub use row::{MOST_FIELD_BYTES, MOST_ROWS, RuleReader};
 pub use table::Table;

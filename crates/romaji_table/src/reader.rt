@@ -1,0 +1,28 @@
+ghost use Rattle.std.specs.Prelude.{◌≡◌, IfOk};
+ghost use Rattle.std.specs.List.{AllByRecursion};
+ghost use Rattle.mz_base.specs.Answers.{Gives};
+ghost use Rattle.mz_base.specs.Kana.{IsRule};
+ghost use Rattle.mz_base.specs.Latest.{latest};
+ghost use Rattle.romaji_table.specs.Repeats.{same_input};
+ghost use Rattle.romaji_table.specs.Rows.{romaji_rows};
+
+use crate::repeats::keep_latest;
+use crate::{RuleReader, Table};
+use mz_base::{NoMemory, ReadError, Rule, read_rows};
+use std::alloc::Global;
+
+/// Reads a romaji file.
+pub fn read(alloc: Global, bytes: &[u8]) -> Result<Table, ReadError>
+    ensures { Gives (λ table. table) result (romaji_rows bytes.now) }
+{
+    let rows = read_rows(alloc, &mut RuleReader, Vec::new(alloc), bytes)?;
+    Ok(table_of(alloc, rows)?)
+}
+
+fn table_of(alloc: Global, rows: Vec<Rule>) -> Result<Table, NoMemory>
+    requires { AllByRecursion IsRule rows.items }
+    ensures { IfOk result (λ table. table ≡ latest same_input rows.items) }
+{
+    let kept = keep_latest(alloc, rows)?;
+    Table::from_rows(alloc, kept)
+}
