@@ -4,5 +4,7 @@
 
 mod composer;
 mod shown;
+#[cfg(test)]
+mod tests;
 
 pub use composer::{Composer, InsertError, MOST_SHOWN};
