@@ -6,7 +6,7 @@ ghost use Rattle.mz_base.specs.declared.romaji.Rule.{Rule};
 
 use crate::{Composer, InsertError};
 use mz_base::{NoMemory, Romaji, Rule, RuleView, Text};
-use std::alloc::{AllocError, Global};
+use std::alloc::Global;
 use std::marker::Model;
 use std::test::Fail;
 
@@ -131,77 +131,62 @@ fn typed(alloc: Global, table: &Rules, keys: &str) -> Result<Composer, InsertErr
     Ok(composer)
 }
 
-fn text_of(alloc: Global, letters: &[char]) -> Result<String, AllocError> {
-    let mut text = String::new(alloc);
-    for letter in letters {
-        text.push(*letter)?;
-    }
-    Ok(text)
-}
-
-// Keys, what is shown, the cursor, the base, the reading.
-const TYPED: [(&str, &str, usize, &str, &str); 10] = [
-    ("", "", 0, "", ""),
-    ("k", "k", 1, "", "k"),
-    ("kk", "っk", 2, "っ", "っk"),
-    ("kka", "っか", 2, "っか", "っか"),
-    ("n", "n", 1, "", "ん"),
-    ("na", "な", 1, "な", "な"),
-    ("nk", "んk", 2, "ん", "んk"),
-    ("ky", "ky", 2, "", "ky"),
-    ("kyo", "きょ", 2, "きょ", "きょ"),
-    ("kyou", "きょう", 3, "きょう", "きょう"),
+// Keys, and what is seen then: what is shown, the cursor, the base, the reading.
+const TYPED: [(&str, &str); 10] = [
+    ("", ", 0, , "),
+    ("k", "k, 1, , k"),
+    ("kk", "っk, 2, っ, っk"),
+    ("kka", "っか, 2, っか, っか"),
+    ("n", "n, 1, , ん"),
+    ("na", "な, 1, な, な"),
+    ("nk", "んk, 2, ん, んk"),
+    ("ky", "ky, 2, , ky"),
+    ("kyo", "きょ, 2, きょ, きょ"),
+    ("kyou", "きょう, 3, きょう, きょう"),
 ];
 
 #[test]
 fn shows_kana_as_it_is_typed(rt: HostRuntime) -> Result<(), Fail> {
     let table = read_rows(rt.alloc())?;
-    for (keys, preedit, cursor, base, reading) in TYPED {
+    for (keys, seen) in TYPED {
         let composer = typed(rt.alloc(), &table, keys)?;
         assert_eq!(rt;
-            text_of(rt.alloc(), &composer.preedit(&table)?)?.as_str(),
-            preedit,
-            "after {keys}"
-        );
-        assert_eq!(rt; composer.cursor(&table)?, cursor, "after {keys}");
-        assert_eq!(rt;
-            text_of(rt.alloc(), &composer.base(&table)?)?.as_str(),
-            base,
-            "after {keys}"
-        );
-        assert_eq!(rt;
-            text_of(rt.alloc(), &composer.reading(&table)?)?.as_str(),
-            reading,
+            see(rt.alloc(), &composer, &table)?.as_str(),
+            seen,
             "after {keys}"
         );
     }
     Ok(())
 }
 
-// Keys, what backspace leaves, and what is shown after a further `a`.
-const TAKEN_BACK: [(&str, &str, &str); 5] = [
-    ("", "", "あ"),
-    ("ky", "k", "か"),
-    ("kk", "っ", "っあ"),
-    ("kyo", "き", "きあ"),
-    ("kyou", "きょ", "きょあ"),
+fn see(alloc: Global, composer: &Composer, table: &Rules) -> Result<String, NoMemory> {
+    let preedit = Text::from_vec(composer.preedit(table)?);
+    let cursor = composer.cursor(table)?;
+    let base = Text::from_vec(composer.base(table)?);
+    let reading = Text::from_vec(composer.reading(table)?);
+    Ok(format!(in alloc; "{preedit}, {cursor}, {base}, {reading}")?)
+}
+
+// Keys, and what is shown after Backspace and `a`.
+const TAKEN_BACK: [(&str, &str); 5] = [
+    ("", "あ"),
+    ("ky", "か"),
+    ("kk", "っあ"),
+    ("kyo", "きあ"),
+    ("kyou", "きょあ"),
 ];
 
 #[test]
 fn takes_back_what_is_before_the_cursor(rt: HostRuntime) -> Result<(), Fail> {
     let table = read_rows(rt.alloc())?;
-    for (keys, left, then) in TAKEN_BACK {
+    for (keys, shown) in TAKEN_BACK {
         let mut composer = typed(rt.alloc(), &table, keys)?;
         composer.backspace(&table)?;
-        assert_eq!(rt;
-            text_of(rt.alloc(), &composer.preedit(&table)?)?.as_str(),
-            left,
-            "after {keys}"
-        );
         composer.insert(&table, 'a')?;
+        let preedit = Text::from_vec(composer.preedit(&table)?);
         assert_eq!(rt;
-            text_of(rt.alloc(), &composer.preedit(&table)?)?.as_str(),
-            then,
+            preedit.to_string(rt.alloc())?.as_str(),
+            shown,
             "after {keys}"
         );
     }
