@@ -1,1 +1,2 @@
 mod KanaSteps
+mod Waiting

@@ -1,5 +1,5 @@
 -- A text that is being composed, and what each key makes of it: docs/FORMATS.md, "Composition".
-use Rattle.std.specs.Prelude.{ℕ, ◌+◌, ◌-◌, ◌==◌, List, [], ◌∷◌, ◌++◌, if◌then◌else◌, length, take}
+use Rattle.std.specs.Prelude.{ℕ, ◌-◌, ◌==◌, List, [], ◌∷◌, ◌++◌, if◌then◌else◌, length, take}
 use Rattle.mz_base.specs.Kana.{kana, finish}
 use Rattle.mz_base.specs.declared.romaji.Rule.{Rule}
 
@@ -9,25 +9,25 @@ pub record Composing : Type 0 where
   pub run : List ℕ
   pub right : List ℕ
 
--- a text between the fixed ones
-abbrev pub between_fixed : Composing → List ℕ → List ℕ
-between_fixed c middle = c.left ++ (middle ++ c.right)
+-- what is shown before the cursor: the run stands there as its kana, and then what is pending
+abbrev pub front_of : List Rule → Composing → List ℕ
+front_of rules c = c.left ++ ((kana rules c.run).output ++ (kana rules c.run).pending)
 
--- what is shown: the run as its kana and what is pending
+-- what is shown
 abbrev pub preedit_of : List Rule → Composing → List ℕ
-preedit_of rules c = between_fixed c ((kana rules c.run).output ++ (kana rules c.run).pending)
+preedit_of rules c = front_of rules c ++ c.right
+
+-- how many of the shown characters stand before the cursor
+abbrev pub cursor_of : List Rule → Composing → ℕ
+cursor_of rules c = length (front_of rules c)
 
 -- what is shown, without what is pending
 abbrev pub base_of : List Rule → Composing → List ℕ
-base_of rules c = between_fixed c (kana rules c.run).output
+base_of rules c = (c.left ++ (kana rules c.run).output) ++ c.right
 
 -- the text as it is, should no more be typed
 abbrev pub reading_of : List Rule → Composing → List ℕ
-reading_of rules c = between_fixed c (finish rules c.run)
-
--- how many of the shown characters stand before the cursor: all but the fixed text after it
-abbrev pub cursor_of : List Rule → Composing → ℕ
-cursor_of rules c = length c.left + (length (kana rules c.run).output + length (kana rules c.run).pending)
+reading_of rules c = (c.left ++ finish rules c.run) ++ c.right
 
 -- a character goes to the end of the run
 abbrev pub inserted : Composing → ℕ → Composing

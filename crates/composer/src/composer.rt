@@ -1,5 +1,5 @@
 ghost use Rattle.std.specs.Prelude.{◌≡◌, ◌<◌, ◌≤◌, nat_le, [], ◌++◌, length, Err, IfOk, OnOk, OnErr};
-ghost use Rattle.composer.specs.Composing.{Composing, between_fixed, preedit_of, base_of, reading_of, cursor_of, inserted, backspaced};
+ghost use Rattle.composer.specs.Composing.{Composing, preedit_of, base_of, reading_of, cursor_of, inserted, backspaced};
 
 use crate::shown::{Shown, finish, kana};
 use mz_base::{NoMemory, Romaji};
@@ -117,7 +117,7 @@ impl Composer {
     }
 
     fn between_fixed(&self, middle: &[char]) -> Result<Vec<char>, NoMemory>
-        ensures { IfOk result (λ text. text.items ≡ between_fixed self.now middle.now) }
+        ensures { IfOk result (λ text. text.items ≡ (self.now.left ++ middle.now) ++ self.now.right) }
     {
         let mut text = Vec::from_slice(self.alloc, self.left.as_slice())?;
         text.extend_from_slice(middle)?;

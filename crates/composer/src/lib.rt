@@ -3,6 +3,10 @@
 #![tactic(auto)]
 
 mod composer;
+mod laws;
 mod shown;
+#[cfg(test)]
+mod tests;
 
 pub use composer::{Composer, InsertError, MOST_SHOWN};
+pub use laws::backspace_takes_one_shown;
