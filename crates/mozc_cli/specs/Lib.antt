@@ -1,8 +1,11 @@
+pub mod Core
 pub mod ManifestAnswers
 pub mod Manifests
+pub mod Printed
 pub mod ScriptAnswers
 pub mod Scripts
 pub mod Sessions
 pub mod Settles
+pub mod Texts
 pub mod WorldAnswers
 pub mod Worlds

@@ -2,8 +2,10 @@
 #![tactic(auto)]
 
 mod manifest;
+mod print;
 mod refusal;
 mod script;
+mod serving;
 mod session;
 mod world;
 

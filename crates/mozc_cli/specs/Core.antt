@@ -1,0 +1,112 @@
+-- Events, when each is legal, and the order of a run: docs/FORMATS.md, "Events".
+use Rattle.std.specs.Prelude.{◌≡◌, ℕ, ◌==◌, ◌&&◌, Bool, true, false, not, List, [], ◌∷◌, ◌++◌, Option, Some, None, option_and_then, if◌then◌else◌, IsTrue}
+use Rattle.mz_base.specs.declared.event.Event.{Event}
+use Rattle.mz_base.specs.declared.event.Event.TheVariants as event
+use Rattle.mz_base.specs.declared.event.Outcome.TheVariants as outcome
+use Rattle.mz_base.specs.declared.report.Line.{Line}
+use Rattle.mz_base.specs.declared.romaji.Rule.{Rule}
+use Rattle.mozc_cli.specs.Sessions.{Stepped, opening, needs_take, step}
+use Rattle.mozc_cli.specs.declared.script.Command.{Command}
+use Rattle.mozc_cli.specs.declared.session.Session.{Session}
+use Rattle.mozc_cli.specs.declared.session.TheConstants.{FIRST_JOB}
+use Rattle.mozc_cli.specs.declared.serving.TheConstants.{FIRST_CLIENT}
+use Rattle.mozc_cli.specs.declared.world.World.{World}
+
+-- what stands after some events, with one job, one user and one client
+pub record State : Type 0 where
+  -- the job stands published in the log, and the log is closed
+  pub published : Bool
+  pub closed : Bool
+  -- the client's session, its commands that are to come, and whether the next one's take has come
+  pub session : Session
+  pub rest : List Command
+  pub taken : Bool
+  pub ended : Bool
+  -- the client's lines, and all events
+  pub lines : List Line
+  pub events : List Event
+
+-- before any event
+abbrev pub start : World → State
+start world =
+    record { published = false; closed = false; session = opening; rest = world.commands; taken = false; ended = false; lines = []; events = [] }
+
+-- an event is noted
+abbrev pub noted : Event → State → State
+noted event state = record state { events = state.events ++ event ∷ [] }
+
+abbrev pub provided : Bool → State → Option State
+provided legal state = if legal then Some state else None
+
+-- the next command needs a take, and it has not come
+abbrev pub wants_take : State → List Command → Bool
+wants_take state [] = false
+wants_take state (command ∷ rest) = needs_take state.session command && not state.taken
+
+-- the next command is carried out
+abbrev pub carried_out : List Rule → State → List Command → State
+carried_out rules state [] = state
+carried_out rules state (command ∷ rest) =
+    let made = step rules state.session command in
+    record state { session = made.session; rest = rest; taken = false; lines = state.lines ++ made.line ∷ [] }
+
+abbrev pub is_empty : List Command → Bool
+is_empty [] = true
+is_empty (command ∷ rest) = false
+
+-- The state after an event, where it is legal. The job comes first. A client's take comes once where its next command
+-- needs it, and before its step; its end comes when no command is left; the log closes once.
+abbrev pub apply : List Rule → State → Event → Option State
+apply rules state (event.Job job outcome.Published) =
+    provided (job == FIRST_JOB && not state.published) (noted (event.Job job outcome.Published) (record state { published = true }))
+apply rules state (event.Job job outcome.Refused) = None
+apply rules state (event.Job job outcome.Skipped) = None
+apply rules state (event.Dict user reload) = None
+apply rules state (event.Learn client) = None
+apply rules state (event.Take client job) =
+    provided (state.published && (client == FIRST_CLIENT && (job == FIRST_JOB && wants_take state state.rest))) (noted (event.Take client job) (record state { taken = true }))
+apply rules state (event.Await client job) = None
+apply rules state (event.NotYet client) = None
+apply rules state (event.Step client) =
+    provided (state.published && (client == FIRST_CLIENT && (not (is_empty state.rest) && not (wants_take state state.rest)))) (noted (event.Step client) (carried_out rules state state.rest))
+apply rules state (event.End client) =
+    provided (state.published && (client == FIRST_CLIENT && (is_empty state.rest && not state.ended))) (noted (event.End client) (record state { ended = true }))
+apply rules state event.Close =
+    provided (state.published && not state.closed) (noted event.Close (record state { closed = true }))
+
+-- the state after events, where each is legal
+abbrev pub play_from : List Rule → State → List Event → Option State
+play_from rules state [] = Some state
+play_from rules state (event ∷ events) =
+    option_and_then (λ next. play_from rules next events) (apply rules state event)
+
+abbrev pub play : World → List Event → Option State
+play world events = play_from world.table (start world) events
+
+-- the job and each command came, the client ended, and the log is closed
+pub record IsComplete (state : State) : Type 0 where
+  pub published : IsTrue state.published
+  pub carried_out : state.rest ≡ []
+  pub ended : IsTrue state.ended
+  pub closed : IsTrue state.closed
+
+-- the take that a command needs
+abbrev pub take_for : Session → Command → List Event
+take_for session command = if needs_take session command then event.Take FIRST_CLIENT FIRST_JOB ∷ [] else []
+
+-- each command's events: its take, if it needs one, and its step
+abbrev pub client_events : List Rule → Session → List Command → List Event
+client_events rules session [] = []
+client_events rules session (command ∷ rest) =
+    take_for session command ++ (event.Step FIRST_CLIENT ∷ client_events rules (step rules session command).session rest)
+
+-- each command's line
+abbrev pub client_lines : List Rule → Session → List Command → List Line
+client_lines rules session [] = []
+client_lines rules session (command ∷ rest) =
+    (step rules session command).line ∷ client_lines rules (step rules session command).session rest
+
+-- the order of a run: the job, the client's events, its end, and the close of the log
+abbrev pub run_order : World → List Event
+run_order world =
+    event.Job FIRST_JOB outcome.Published ∷ (client_events world.table opening world.commands ++ (event.End FIRST_CLIENT ∷ event.Close ∷ []))
