@@ -2,6 +2,7 @@ pub mod Core
 pub mod ManifestAnswers
 pub mod Manifests
 pub mod Printed
+pub mod Reported
 pub mod ScriptAnswers
 pub mod Scripts
 pub mod Sessions

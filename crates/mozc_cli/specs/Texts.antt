@@ -1,12 +1,12 @@
 -- The text of a report: docs/FORMATS.md, "Report".
-use Rattle.std.specs.Prelude.{ℕ, ◌+◌, Bool, List, [], ◌∷◌, ◌++◌, Option, option_map, if◌then◌else◌, codes, encode_utf8_all}
+use Rattle.std.specs.Prelude.{ℕ, ◌+◌, Bool, List, [], ◌∷◌, ◌++◌, if◌then◌else◌, codes, encode_utf8_all}
 use Rattle.std.specs.List.{flat_map}
 use Rattle.std.specs.Fmt.{decimal}
 use Rattle.mz_base.specs.Reports.{word_text, mode_text, outcome_text}
 use Rattle.mz_base.specs.declared.event.Event.{Event}
 use Rattle.mz_base.specs.declared.event.Event.TheVariants as event
 use Rattle.mz_base.specs.declared.report.Line.{Line}
-use Rattle.mozc_cli.specs.Core.{State, play, run_order}
+use Rattle.mozc_cli.specs.Core.{State}
 use Rattle.mozc_cli.specs.declared.world.World.{World}
 
 -- the names in a report: the one client's and the one user's
@@ -63,7 +63,3 @@ report_text names state =
 
 abbrev pub names_of : World → Names
 names_of world = record { client = world.client; user = world.user }
-
--- the report of a run, where its order is legal
-abbrev pub run_text : World → Option (List ℕ)
-run_text world = option_map (report_text (names_of world)) (play world (run_order world))

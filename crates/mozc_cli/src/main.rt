@@ -1,6 +1,7 @@
 //! The Sockflint program: runs a manifest's client and writes the report. Start at [`local`].
 #![tactic(auto)]
 
+mod local;
 mod manifest;
 mod print;
 mod refusal;

@@ -1,6 +1,6 @@
 ghost use Rattle.std.specs.Prelude.{◌≡◌};
 
-use mz_base::{NoMemory, Status, Text};
+use mz_base::{NoMemory, Text};
 use std::alloc::AllocError;
 
 /// Why a run does not begin.
@@ -31,20 +31,5 @@ impl From<AllocError> for Refusal {
 
     fn from(_error: AllocError) -> Refusal {
         Refusal::Memory
-    }
-}
-
-impl From<Refusal> for Status {
-    ghost use Rattle.mozc_cli.specs.Settles.{status_of};
-
-    ghost from_gives = { λ refusal status. status ≡ status_of refusal };
-
-    fn from(refusal: Refusal) -> Status {
-        match refusal {
-            Refusal::Absent(name) => Status::Absent(name),
-            Refusal::Unbuilt(name, line) => Status::Unbuilt(name, line),
-            Refusal::ReadFault => Status::ReadFault,
-            Refusal::Memory => Status::Memory,
-        }
     }
 }
