@@ -1,5 +1,5 @@
 -- What a data set means, and what its look-ups answer: docs/FORMATS.md, "Data files".
-use Rattle.std.specs.Prelude.{◌≡◌, ℕ, ◌+◌, ◌-◌, ◌*◌, ◌<◌, ◌≤◌, ℤ, pos, ◌≤ℤ◌, Bool, ◌&&◌, List, [], map, filter, find, length, nat_eq, nat_le, slice_index_or, slice_range, Option}
+use Rattle.std.specs.Prelude.{◌≡◌, ℕ, ◌+◌, ◌-◌, ◌*◌, ◌<◌, ◌≤◌, ℤ, pos, ◌≤ℤ◌, Bool, ◌&&◌, List, [], map, filter, find, length, nat_eq, nat_le, slice_index_or, slice_range, Option, IfSome}
 use Rattle.std.specs.List.{starts_with, flat_map, list_any, range_with_len}
 use Rattle.std.specs.Option.{option_map}
 use lib.Pointwise.{pointwise}
@@ -135,6 +135,6 @@ pub record AreDataSound (d : DataLists) : Type 0 where
   pub few_words : length d.words ≤ MOST_WORDS
   pub connections : (r l : ℕ) → r < d.ids → l < d.ids → IsCost (connection d r l)
   pub classes : (class : Class) → IsNode d.ids (unknown_of d class)
-  pub parts : (i : ℕ) (row : PosRow) → i < length d.pos → IsNode d.ids ((slice_index_or d.pos i row).id, (slice_index_or d.pos i row).cost)
+  pub parts : (name : List ℕ) → IfSome (pos_of d name) (IsNode d.ids)
   pub words : (i : ℕ) → i < length d.words → IsWordSound d.ids (word_at d i)
   pub rules_sound : AreRules d.rules

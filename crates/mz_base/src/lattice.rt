@@ -1,5 +1,8 @@
 use crate::{Seq, Text};
 
+/// The most characters of a key.
+pub const MOST_KEY: usize = 256;
+
 /// What a lattice entry stands for.
 #[derive(Clone, Copy)]
 pub enum Source {

@@ -27,7 +27,7 @@ pub use data::{
 };
 pub use event::{Event, Outcome};
 pub use fault::{Fault, FaultKind, ReadError, Role};
-pub use lattice::{Candidate, Certificate, Entry, Lattice, Pair, Source, Span};
+pub use lattice::{Candidate, Certificate, Entry, Lattice, MOST_KEY, Pair, Source, Span};
 pub use lines::{cut_fields, cut_lines, text_of_line};
 pub use memory::NoMemory;
 pub use numbers::{MOST_DIGITS, number};
