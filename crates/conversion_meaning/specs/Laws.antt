@@ -1,0 +1,43 @@
+-- The laws of what a conversion means.
+use Rattle.std.specs.Prelude.{◌≡◌, ◌≢◌, ℕ, ◌≤ℤ◌, ◌⊎◌, List, length}
+use Rattle.mz_base.specs.Data.{DataLists, AreDataSound}
+use Rattle.mz_base.specs.declared.lattice.Entry.{Entry}
+use Rattle.mz_base.specs.declared.lattice.Lattice.{Lattice}
+use Rattle.mz_base.specs.declared.lattice.Span.{Span}
+use Rattle.mz_base.specs.declared.user.UserRow.{UserRow}
+use Rattle.conversion_meaning.specs.Best.{IsBest}
+use Rattle.conversion_meaning.specs.Certificates.{Tested, IsCertificate}
+use Rattle.conversion_meaning.specs.Entries.{entries}
+use Rattle.conversion_meaning.specs.Lattices.{IsKey, AreBounds, IsByEnd, IsWellFormed}
+use Rattle.conversion_meaning.specs.Order.{IsBefore}
+use Rattle.conversion_meaning.specs.Paths.{IsPathOver, IsSpan, path_cost}
+
+-- of two different paths exactly one is before the other
+abbrev pub OneIsBefore : Type 0
+OneIsBefore =
+    (d : DataLists) (es : List Entry) (span : Span) (p q : List ℕ) → p ≢ q → (IsBefore d es span p q × ¬ (IsBefore d es span q p)) ⊎ (IsBefore d es span q p × ¬ (IsBefore d es span p q))
+
+-- 'before' is transitive
+abbrev pub BeforeGoesOn : Type 0
+BeforeGoesOn =
+    (d : DataLists) (es : List Entry) (span : Span) (p q r : List ℕ) → IsBefore d es span p q → IsBefore d es span q r → IsBefore d es span p r
+
+-- where a path, potentials and a total are a certificate, no path costs less than the total
+abbrev pub NoneCostsLess : Type 0
+NoneCostsLess =
+    (l : Lattice) (t : Tested) (path other : List ℕ) → IsWellFormed t.lists l → t.entries ≡ l.entries → IsCertificate t path → IsPathOver t.entries t.span other → t.total ≤ℤ path_cost t.lists t.entries t.span other
+
+-- in a well-formed lattice each span has a best path
+abbrev pub OneIsBest : Type 0
+OneIsBest =
+    (d : DataLists) (l : Lattice) (span : Span) → IsWellFormed d l → IsSpan d l span → (path : List ℕ) × IsBest d l.entries span path
+
+-- and it is one
+abbrev pub BestIsOne : Type 0
+BestIsOne =
+    (d : DataLists) (es : List Entry) (span : Span) (p q : List ℕ) → IsBest d es span p → IsBest d es span q → p ≡ q
+
+-- the entries of a key make a well-formed lattice
+abbrev pub EntriesAreWellFormed : Type 0
+EntriesAreWellFormed =
+    (d : DataLists) (rows : List UserRow) (l : Lattice) → AreDataSound d → IsKey l.key → AreBounds l.key l.bounds → l.entries ≡ entries d rows l.key l.bounds → IsByEnd l.entries l.by_end → IsWellFormed d l

@@ -1,0 +1,9 @@
+//! What a conversion means: the entries of a key, paths and their order, certificates. No code: specs/ has the
+//! definitions, and each function here is a law of them, which its clause states. Start at [`one_is_best`].
+#![tactic(auto)]
+
+mod certificates;
+mod order;
+
+pub use certificates::none_costs_less;
+pub use order::{before_goes_on, one_is_before};
