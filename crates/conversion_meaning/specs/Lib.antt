@@ -1,6 +1,7 @@
 pub mod Best
 pub mod Certificates
 pub mod Entries
+pub mod Examples
 pub mod Lattices
 pub mod Laws
 pub mod Order

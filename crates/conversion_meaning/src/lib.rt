@@ -3,7 +3,9 @@
 #![tactic(auto)]
 
 mod certificates;
+mod examples;
 mod order;
 
 pub use certificates::none_costs_less;
+pub use examples::entries_of_kyouha;
 pub use order::{before_goes_on, one_is_before};

@@ -1,0 +1,3 @@
+pub mod Tries
+pub mod Lists
+pub mod Duality
