@@ -1,3 +1,4 @@
 pub mod Tries
 pub mod Lists
 pub mod Duality
+pub mod Ordered
