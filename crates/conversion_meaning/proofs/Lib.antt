@@ -2,3 +2,5 @@ pub mod Tries
 pub mod Lists
 pub mod Duality
 pub mod Ordered
+pub mod PathLemmas
+pub mod BestLemmas

@@ -23,16 +23,15 @@ pub same_from_last : (p q : List ℕ) → slice_cmp nat_cmp (reverse p) (reverse
 same_from_last p q tied =
     sym (reverse-reverse p) ∙ ap reverse (exact_bytes (reverse p) (reverse q) tied) ∙ reverse-reverse q
 
-one_by_order : (p q : List ℕ) → p ≢ q → (o : Ordering) → slice_cmp nat_cmp (reverse p) (reverse q) ≡ o → IsLowerFromLast p q ⊎ IsLowerFromLast q p
-one_by_order p q differ Less is = inl is
-one_by_order p q differ Equal is = absurd (differ (same_from_last p q is))
-one_by_order p q differ Greater is =
-    inr (nat_list_cmp_total.antisymm (reverse q) (reverse p) ∙ ap ordering_reverse is)
+cases_by_order : (p q : List ℕ) (o : Ordering) → slice_cmp nat_cmp (reverse p) (reverse q) ≡ o → (p ≡ q) ⊎ (IsLowerFromLast p q ⊎ IsLowerFromLast q p)
+cases_by_order p q Less is = inr (inl is)
+cases_by_order p q Equal is = inl (same_from_last p q is)
+cases_by_order p q Greater is =
+    inr (inr (nat_list_cmp_total.antisymm (reverse q) (reverse p) ∙ ap ordering_reverse is))
 
--- of two different lists one is lower from the last
-pub one_is_lower : (p q : List ℕ) → p ≢ q → IsLowerFromLast p q ⊎ IsLowerFromLast q p
-one_is_lower p q differ =
-    one_by_order p q differ (slice_cmp nat_cmp (reverse p) (reverse q)) refl
+-- two lists are one, or one is lower from the last
+pub lower_cases : (p q : List ℕ) → (p ≡ q) ⊎ (IsLowerFromLast p q ⊎ IsLowerFromLast q p)
+lower_cases p q = cases_by_order p q (slice_cmp nat_cmp (reverse p) (reverse q)) refl
 
 pub IsLowerFromLast-trans : (p q r : List ℕ) → IsLowerFromLast p q → IsLowerFromLast q r → IsLowerFromLast p r
 IsLowerFromLast-trans p q r = nat_list_cmp_total.trans (reverse p) (reverse q) (reverse r)
@@ -57,6 +56,11 @@ module _ (d : DataLists) (es : List Entry) (span : Span) where
   not_before_back p q (inr a) (inl b) = omega (arith, ints, a.0)
   not_before_back p q (inr a) (inr b) = not_lower_back p q a.1 b.1
 
+  -- two paths are one, or one is before the other
+  pub order_cases : (p q : List ℕ) → (p ≡ q) ⊎ (IsBefore d es span p q ⊎ IsBefore d es span q p)
+  order_cases p q =
+      by_ranked _ _ _ (int_cmp (path_cost d es span p) (path_cost d es span q)) (int_ranked (path_cost d es span p) (path_cost d es span q) _ refl) (λ _ less. inr (inl (inl less))) (λ _ same. elim (lower_cases p q) [ inl one ↦ inl one | inr (inl a) ↦ inr (inl (inr (same, a))) | inr (inr b) ↦ inr (inr (inr (sym same, b))) ]) (λ _ more. inr (inr (inl more)))
+
   pub one_is_before : (p q : List ℕ) → p ≢ q → IsBefore d es span p q ⊎ IsBefore d es span q p
   one_is_before p q differ =
-      by_ranked _ _ _ (int_cmp (path_cost d es span p) (path_cost d es span q)) (int_ranked (path_cost d es span p) (path_cost d es span q) _ refl) (λ _ less. inl (inl less)) (λ _ same. elim (one_is_lower p q differ) [ inl a ↦ inl (inr (same, a)) | inr b ↦ inr (inr (sym same, b)) ]) (λ _ more. inr (inl more))
+      elim (order_cases p q) [ inl same ↦ absurd (differ same) | inr cases ↦ cases ]

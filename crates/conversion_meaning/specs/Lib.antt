@@ -1,3 +1,4 @@
+pub mod AllPaths
 pub mod Best
 pub mod Certificates
 pub mod Entries

@@ -2,10 +2,12 @@
 //! definitions, and each function here is a law of them, which its clause states. Start at [`one_is_best`].
 #![tactic(auto)]
 
+mod best;
 mod certificates;
 mod examples;
 mod order;
 
+pub use best::{best_is_one, one_is_best};
 pub use certificates::none_costs_less;
 pub use examples::entries_of_kyouha;
 pub use order::{before_goes_on, one_is_before};
