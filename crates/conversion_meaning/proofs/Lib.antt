@@ -4,3 +4,4 @@ pub mod Duality
 pub mod Ordered
 pub mod PathLemmas
 pub mod BestLemmas
+pub mod EntryLemmas

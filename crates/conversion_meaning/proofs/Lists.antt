@@ -1,6 +1,6 @@
 -- Membership in lists that `map`, `filter`, `flat_map` and ranges make.
-use Rattle.std.proofs.Common.{◌≡◌, refl, sym, ap, ◌∙◌, subst, ℕ, zero, suc, ◌+◌, ◌<◌, ◌≤◌, Bool, true, false, cond, ◌⊎◌, inl, inr, List, [], ◌∷◌, ◌++◌, map, length, get_or, arith, add-one}
-use Rattle.std.specs.List.{All, AllPairs, filter, flat_map, range_with_len}
+use Rattle.std.proofs.Common.{◌≡◌, refl, sym, ap, ◌∙◌, subst, ℕ, zero, suc, ◌+◌, ◌<◌, ◌≤◌, Bool, true, false, cond, ◌⊎◌, inl, inr, List, [], ◌∷◌, ◌++◌, map, Option, Some, None, length, get_or, arith, add-one}
+use Rattle.std.specs.List.{All, AllPairs, cons_option, filter, filter_map, flat_map, range_with_len}
 use Rattle.std.proofs.lemmas.List.Elements.{All-nil, All-cons}
 use Rattle.std.proofs.lemmas.List.Kept.{AllPairs-cons}
 
@@ -95,3 +95,48 @@ Among-get_or (x ∷ xs) (suc k) d h = inr (Among-get_or xs k d (omega arith))
 
 pub All-from_among : {X : Type 0} (P : X → Type 0) (xs : List X) → ((x : X) → Among x xs → P x) → All P xs
 All-from_among P xs h = λ k d inside. h (get_or xs k d) (Among-get_or xs k d inside)
+
+-- an element of a `filter_map` is what one of the list gives
+pub from_filter_map : {X Y : Type 0} (f : X → Option Y) (y : Y) (xs : List X) → Among y (filter_map f xs) → (x : X) × Among x xs × (f x ≡ Some y)
+from_filter_map f y [] h = absurd h
+from_filter_map f y (x ∷ xs) h = by_value f y x xs (from_filter_map f y xs) (f x) refl h
+  where
+    by_value : {X Y : Type 0} (f : X → Option Y) (y : Y) (x : X) (xs : List X) → (Among y (filter_map f xs) → (z : X) × Among z xs × (f z ≡ Some y)) → (o : Option Y) → f x ≡ o → Among y (cons_option o (filter_map f xs)) → (z : X) × Among z (x ∷ xs) × (f z ≡ Some y)
+    by_value f y x xs more None is h = let r = more h in (r.0, inr r.1, r.2)
+    by_value f y x xs more (Some v) is (inl e) = (x, inl refl, is ∙ ap Some e)
+    by_value f y x xs more (Some v) is (inr h) = let r = more h in (r.0, inr r.1, r.2)
+
+-- each element is related to all later ones
+abbrev pub Rises : {X : Type 0} → (X → X → Type 0) → List X → Type 0
+Rises R [] = Unit {0}
+Rises {X} R (x ∷ xs) = ((y : X) → Among y xs → R x y) × Rises R xs
+
+pub AllPairs-from_rises : {X : Type 0} (R : X → X → Type 0) (xs : List X) → Rises R xs → AllPairs R xs
+AllPairs-from_rises R [] h = λ i j d below inside. absurd (omega arith)
+AllPairs-from_rises R (x ∷ xs) h =
+    AllPairs-cons R x xs (All-from_among (R x) xs h.0) (AllPairs-from_rises R xs h.1)
+
+pub Rises-append : {X : Type 0} (R : X → X → Type 0) (xs ys : List X) → Rises R xs → Rises R ys → ((x y : X) → Among x xs → Among y ys → R x y) → Rises R (xs ++ ys)
+Rises-append R [] ys first second across = second
+Rises-append {X} R (x ∷ xs) ys first second across = (ahead, Rises-append R xs ys first.1 second (λ a b h. across a b (inr h)))
+  where
+    ahead : (y : X) → Among y (xs ++ ys) → R x y
+    ahead y h =
+        elim (Among-append_cases y xs ys h) [ inl a ↦ first.0 y a | inr b ↦ across x y (inl refl) b ]
+
+-- a list of elements that are all related to each other
+pub Rises-all : {X : Type 0} (R : X → X → Type 0) (xs : List X) → ((x y : X) → Among x xs → Among y xs → R x y) → Rises R xs
+Rises-all R [] h = tt
+Rises-all R (x ∷ xs) h = (λ y k. h x y (inl refl) (inr k), Rises-all R xs (λ a b j k. h a b (inr j) (inr k)))
+
+-- the parts that the numbers of a range give, where what a lower number gives is related to what a higher one gives
+pub Rises-flat_map : {X : Type 0} (R : X → X → Type 0) (f : ℕ → List X) (a n : ℕ) → ((i : ℕ) → a ≤ i → i < a + n → Rises R (f i)) → ((i j : ℕ) (x y : X) → a ≤ i → i < j → j < a + n → Among x (f i) → Among y (f j) → R x y) → Rises R (flat_map f (range_with_len a n))
+Rises-flat_map R f a zero within across = tt
+Rises-flat_map {X} R f a (suc n) within across =
+    Rises-append R (f a) (flat_map f (range_with_len (a + 1) n)) (within a (omega arith) (omega arith)) (Rises-flat_map R f (a + 1) n (λ i low high. within i (omega arith) (omega arith)) (λ i j x y low below high. across i j x y (omega arith) below (omega arith))) later
+  where
+    later : (x y : X) → Among x (f a) → Among y (flat_map f (range_with_len (a + 1) n)) → R x y
+    later x y h k =
+        let r = from_flat_map f y (range_with_len (a + 1) n) k in
+        let inside = from_range (a + 1) n r.0 r.1 in
+        across a r.0 x y (omega arith) (omega arith) (omega arith) h r.2

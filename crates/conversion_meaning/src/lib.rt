@@ -4,10 +4,12 @@
 
 mod best;
 mod certificates;
+mod entries;
 mod examples;
 mod order;
 
 pub use best::{best_is_one, one_is_best};
 pub use certificates::none_costs_less;
+pub use entries::entries_are_well_formed;
 pub use examples::entries_of_kyouha;
 pub use order::{before_goes_on, one_is_before};
