@@ -1,7 +1,7 @@
-pub mod Tries
 pub mod Lists
 pub mod Duality
 pub mod Ordered
 pub mod PathLemmas
 pub mod BestLemmas
 pub mod EntryLemmas
+pub mod Tests

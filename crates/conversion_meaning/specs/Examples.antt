@@ -1,13 +1,15 @@
 -- Worked examples: a small data set, and what its definitions give for some keys.
-use Rattle.std.specs.Prelude.{◌≡◌, ℕ, ℤ, pos, List, [], ◌∷◌, ◌++◌, map}
+use Rattle.std.specs.Prelude.{◌≡◌, ℕ, ℤ, pos, List, [], ◌∷◌, ◌++◌, length}
 use Rattle.mz_base.specs.Data.{DataLists, no_unknown}
 use Rattle.mz_base.specs.declared.data.WordRow.{WordRow}
 use Rattle.mz_base.specs.declared.data.UnknownRow.{UnknownRow}
 use Rattle.mz_base.specs.declared.lattice.Entry.{Entry}
 use Rattle.mz_base.specs.declared.lattice.Source.{Source}
 use Rattle.mz_base.specs.declared.lattice.Source.TheVariants.{User, Word, Char, Run}
+use Rattle.mz_base.specs.declared.lattice.Span.{Span}
+use Rattle.conversion_meaning.specs.Best.{IsBest}
+use Rattle.conversion_meaning.specs.Certificates.{IsCertificate}
 use Rattle.conversion_meaning.specs.Entries.{entries}
-use Rattle.conversion_meaning.specs.Paths.{cost_between}
 
 abbrev pub word_row : List ℕ → ℕ → ℕ → ℕ → List ℕ → WordRow
 word_row reading lid rid cost value =
@@ -47,13 +49,63 @@ set = set_with words_of_set
 abbrev pub kyouha : List ℕ
 kyouha = 0x304d ∷ 0x3087 ∷ 0x3046 ∷ 0x306f ∷ []
 
+-- も
 abbrev pub mo : List ℕ
 mo = 0x3082 ∷ []
 
-abbrev pub kyouha_entries : List Entry
-kyouha_entries =
-    record { begin = 0; end = 1; lid = 1; rid = 1; cost = pos 5000; source = Char } ∷ record { begin = 0; end = 3; lid = 1; rid = 1; cost = pos 300; source = Word 0 } ∷ record { begin = 0; end = 3; lid = 1; rid = 1; cost = pos 350; source = Word 1 } ∷ record { begin = 1; end = 2; lid = 1; rid = 1; cost = pos 5000; source = Char } ∷ record { begin = 2; end = 3; lid = 1; rid = 1; cost = pos 5000; source = Char } ∷ record { begin = 3; end = 4; lid = 2; rid = 2; cost = pos 100; source = Word 2 } ∷ record { begin = 3; end = 4; lid = 1; rid = 1; cost = pos 600; source = Word 3 } ∷ record { begin = 3; end = 4; lid = 1; rid = 1; cost = pos 5000; source = Char } ∷ []
+-- 1203
+abbrev pub digits : List ℕ
+digits = 0x31 ∷ 0x32 ∷ 0x30 ∷ 0x33 ∷ []
+
+abbrev pub entry_with : ℕ → ℕ → ℕ → ℕ → ℕ → Source → Entry
+entry_with begin end lid rid cost source =
+    record { begin = begin; end = end; lid = lid; rid = rid; cost = pos cost; source = source }
+
+-- the whole of a key of this length
+abbrev pub span_of : ℕ → Span
+span_of length = record { begin = 0; end = length; left = 0; right = 0 }
 
 -- き, 今日, 京, ょ, う, は (the word), 葉, は (the character)
-abbrev pub EntriesOfKyouha : Type 0
-EntriesOfKyouha = entries set [] kyouha [] ≡ kyouha_entries
+abbrev pub kyouha_entries : List Entry
+kyouha_entries =
+    entry_with 0 1 1 1 5000 Char ∷ entry_with 0 3 1 1 300 (Word 0) ∷ entry_with 0 3 1 1 350 (Word 1) ∷ entry_with 1 2 1 1 5000 Char ∷ entry_with 2 3 1 1 5000 Char ∷ entry_with 3 4 2 2 100 (Word 2) ∷ entry_with 3 4 1 1 600 (Word 3) ∷ entry_with 3 4 1 1 5000 Char ∷ []
+
+-- き, ょ, う, は (the word), 葉, は (the character)
+abbrev pub cut_entries : List Entry
+cut_entries =
+    entry_with 0 1 1 1 5000 Char ∷ entry_with 1 2 1 1 5000 Char ∷ entry_with 2 3 1 1 5000 Char ∷ entry_with 3 4 2 2 100 (Word 2) ∷ entry_with 3 4 1 1 600 (Word 3) ∷ entry_with 3 4 1 1 5000 Char ∷ []
+
+-- 藻, 喪, も (the character)
+abbrev pub mo_entries : List Entry
+mo_entries = entry_with 0 1 1 1 300 (Word 4) ∷ entry_with 0 1 1 1 300 (Word 5) ∷ entry_with 0 1 1 1 5000 Char ∷ []
+
+-- 1, 1203, 2, 0, 3
+abbrev pub digit_entries : List Entry
+digit_entries =
+    entry_with 0 1 1 1 6000 Char ∷ entry_with 0 4 1 1 6000 Run ∷ entry_with 1 2 1 1 6000 Char ∷ entry_with 2 3 1 1 6000 Char ∷ entry_with 3 4 1 1 6000 Char ∷ []
+
+-- entries, a path, potentials and a total: the entries are the key's, the path is the best, and they are a certificate
+pub record Worked (d : DataLists) (key bounds : List ℕ) (es : List Entry) (path : List ℕ) (potentials : List ℤ) (total : ℤ) : Type 0 where
+  pub entries_are : entries d [] key bounds ≡ es
+  pub best : IsBest d es (span_of (length key)) path
+  pub certified : IsCertificate (record { lists = d; entries = es; span = span_of (length key); path = path; potentials = potentials; total = total })
+
+-- きょうは is 今日は
+abbrev pub Kyouha : Type 0
+Kyouha =
+    Worked set kyouha [] kyouha_entries (1 ∷ 5 ∷ []) (pos 5100 ∷ pos 400 ∷ pos 450 ∷ pos 10500 ∷ pos 15900 ∷ pos 550 ∷ pos 1400 ∷ pos 5800 ∷ []) (pos 750)
+
+-- with a bound after き it is that, character by character
+abbrev pub KyouhaCut : Type 0
+KyouhaCut =
+    Worked set kyouha (1 ∷ []) cut_entries (0 ∷ 1 ∷ 2 ∷ 3 ∷ []) (pos 5100 ∷ pos 10500 ∷ pos 15900 ∷ pos 16050 ∷ pos 16900 ∷ pos 21300 ∷ []) (pos 16250)
+
+-- of two words of one cost the one of the lower row is first
+abbrev pub Mo : Type 0
+Mo =
+    Worked (set_with (words_of_set ++ seaweed_and_mourning)) mo [] mo_entries (0 ∷ []) (pos 400 ∷ pos 400 ∷ pos 5100 ∷ []) (pos 500)
+
+-- digits are a run
+abbrev pub Digits : Type 0
+Digits =
+    Worked set digits [] digit_entries (1 ∷ []) (pos 6100 ∷ pos 6100 ∷ pos 12500 ∷ pos 18900 ∷ pos 25300 ∷ []) (pos 6200)

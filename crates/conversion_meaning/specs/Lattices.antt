@@ -1,5 +1,5 @@
 -- Well-formed lattices: docs/CONVERSION.md, "Lattice".
-use Rattle.std.specs.Prelude.{◌≡◌, ℕ, ◌+◌, ◌<◌, ◌≤◌, pos, false, List, length, All, AllPairs, slice_index_or, slice_index}
+use Rattle.std.specs.Prelude.{◌≡◌, ℕ, ◌+◌, ◌<◌, ◌≤◌, pos, false, List, length, All, AllPairs, Contains, slice_index_or}
 use Rattle.std.specs.List.Sorted.{IsStrictlyIncreasing}
 use Rattle.mz_base.specs.Data.{DataLists, IsCost}
 use Rattle.mz_base.specs.declared.lattice.TheConstants.{MOST_KEY}
@@ -53,7 +53,7 @@ pub record AreInEndOrder (es : List Entry) (ordinal later : ℕ) : Type 0 where
 pub record IsByEnd (es : List Entry) (by_end : List ℕ) : Type 0 where
   pub count : length by_end ≡ length es
   pub ordinals : All (λ ordinal. ordinal < length es) by_end
-  pub each : (o : ℕ) → o < length es → (k : ℕ) × (k < length es) × (slice_index by_end k ≡ o)
+  pub each : (o : ℕ) → o < length es → Contains by_end o
   pub rising : AllPairs (AreInEndOrder es) by_end
 
 -- a well-formed lattice for a data set

@@ -6,7 +6,7 @@ use Rattle.mz_base.specs.declared.lattice.Lattice.{Lattice}
 use Rattle.mz_base.specs.declared.lattice.Span.{Span}
 use Rattle.mz_base.specs.declared.user.UserRow.{UserRow}
 use Rattle.conversion_meaning.specs.Best.{IsBest}
-use Rattle.conversion_meaning.specs.Certificates.{Tested, IsCertificate}
+use Rattle.conversion_meaning.specs.Certificates.{Claim, IsCertificate}
 use Rattle.conversion_meaning.specs.Entries.{entries}
 use Rattle.conversion_meaning.specs.Lattices.{IsKey, AreBounds, IsByEnd, IsWellFormed}
 use Rattle.conversion_meaning.specs.Order.{IsBefore}
@@ -25,7 +25,7 @@ BeforeGoesOn =
 -- where a path, potentials and a total are a certificate, no path costs less than the total
 abbrev pub NoneCostsLess : Type 0
 NoneCostsLess =
-    (l : Lattice) (t : Tested) (path other : List ℕ) → IsWellFormed t.lists l → t.entries ≡ l.entries → IsCertificate t path → IsPathOver t.entries t.span other → t.total ≤ℤ path_cost t.lists t.entries t.span other
+    (l : Lattice) (c : Claim) (other : List ℕ) → IsWellFormed c.lists l → c.entries ≡ l.entries → IsCertificate c → IsPathOver c.entries c.span other → c.total ≤ℤ path_cost c.lists c.entries c.span other
 
 -- in a well-formed lattice each span has a best path
 abbrev pub OneIsBest : Type 0

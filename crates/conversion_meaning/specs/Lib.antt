@@ -8,3 +8,5 @@ pub mod Laws
 pub mod Order
 pub mod Paths
 pub mod Potentials
+pub mod Values
+pub mod Verdicts

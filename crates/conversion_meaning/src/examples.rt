@@ -1,6 +1,21 @@
-ghost use Rattle.conversion_meaning.specs.Examples.{EntriesOfKyouha};
+ghost use Rattle.conversion_meaning.specs.Examples.{Kyouha, KyouhaCut, Mo, Digits};
 
-/// The entries of きょうは in the example's set.
-pub fn entries_of_kyouha()
-    ensures { EntriesOfKyouha }
+/// きょうは in the example's set: its entries, its best path and the certificate.
+pub fn kyouha()
+    ensures { Kyouha }
+{}
+
+/// The same with a bound after き.
+pub fn kyouha_cut()
+    ensures { KyouhaCut }
+{}
+
+/// Two words of one cost.
+pub fn mo()
+    ensures { Mo }
+{}
+
+/// A run of digits.
+pub fn digits()
+    ensures { Digits }
 {}

@@ -11,5 +11,5 @@ mod order;
 pub use best::{best_is_one, one_is_best};
 pub use certificates::none_costs_less;
 pub use entries::entries_are_well_formed;
-pub use examples::entries_of_kyouha;
+pub use examples::{digits, kyouha, kyouha_cut, mo};
 pub use order::{before_goes_on, one_is_before};

@@ -6,7 +6,7 @@ use Rattle.conversion_meaning.proofs.Duality.{AreForward, total-le}
 use Rattle.conversion_meaning.proofs.certificates.none_costs_less.Goals as goal
 
 pub returns : goal.returns
-returns c = λ l t path other well same certificate joined.
-    let forward : AreForward t.entries = subst (λ (es : List Entry). AreForward es) (sym same) (λ o inside. (well.entries o no_entry inside).forward) in
-    let least = total-le t forward certificate.edges None other tt (omega arith) joined in
+returns _ = λ l c other well same certificate joined.
+    let forward : AreForward c.entries = subst (λ (es : List Entry). AreForward es) (sym same) (λ o inside. (well.entries o no_entry inside).forward) in
+    let least = total-le c forward certificate.edges None other tt (omega arith) joined in
     omega (arith, ints)
