@@ -4,4 +4,5 @@ pub mod Ordered
 pub mod PathLemmas
 pub mod BestLemmas
 pub mod EntryLemmas
+pub mod LeastCosts
 pub mod Tests

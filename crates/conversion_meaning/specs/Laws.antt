@@ -11,6 +11,7 @@ use Rattle.conversion_meaning.specs.Entries.{entries}
 use Rattle.conversion_meaning.specs.Lattices.{IsKey, AreBounds, IsByEnd, IsWellFormed}
 use Rattle.conversion_meaning.specs.Order.{IsBefore}
 use Rattle.conversion_meaning.specs.Paths.{IsPathOver, IsSpan, path_cost}
+use Rattle.conversion_meaning.specs.Potentials.{AreLeastCosts}
 
 -- of two different paths exactly one is before the other
 abbrev pub OneIsBefore : Type 0
@@ -41,3 +42,8 @@ BestIsOne =
 abbrev pub EntriesAreWellFormed : Type 0
 EntriesAreWellFormed =
     (d : DataLists) (rows : List UserRow) (l : Lattice) → AreDataSound d → IsKey l.key → AreBounds l.key l.bounds → l.entries ≡ entries d rows l.key l.bounds → IsByEnd l.entries l.by_end → IsWellFormed d l
+
+-- least costs, the best path and its cost are a certificate
+abbrev pub LeastCostsCertify : Type 0
+LeastCostsCertify =
+    (l : Lattice) (c : Claim) → IsSpan c.lists l c.span → AreLeastCosts c.lists c.entries c.span c.potentials → IsBest c.lists c.entries c.span c.path → c.total ≡ path_cost c.lists c.entries c.span c.path → IsCertificate c

@@ -9,7 +9,7 @@ mod examples;
 mod order;
 
 pub use best::{best_is_one, one_is_best};
-pub use certificates::none_costs_less;
+pub use certificates::{least_costs_certify, none_costs_less};
 pub use entries::entries_are_well_formed;
 pub use examples::{digits, kyouha, kyouha_cut, mo};
 pub use order::{before_goes_on, one_is_before};
