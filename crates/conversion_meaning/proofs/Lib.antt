@@ -5,4 +5,6 @@ pub mod PathLemmas
 pub mod BestLemmas
 pub mod EntryLemmas
 pub mod LeastCosts
+pub mod Counts
+pub mod CostBounds
 pub mod Tests

@@ -1,17 +1,19 @@
 -- The laws of what a conversion means.
-use Rattle.std.specs.Prelude.{◌≡◌, ◌≢◌, ℕ, ◌≤ℤ◌, ◌⊎◌, List, length}
+use Rattle.std.specs.Prelude.{◌≡◌, ◌≢◌, ℕ, ◌+◌, ◌-◌, ◌*◌, ◌<◌, ◌≤◌, ℤ, ◌≤ℤ◌, ◌⊎◌, List, length}
 use Rattle.mz_base.specs.Data.{DataLists, AreDataSound}
 use Rattle.mz_base.specs.declared.lattice.Entry.{Entry}
 use Rattle.mz_base.specs.declared.lattice.Lattice.{Lattice}
 use Rattle.mz_base.specs.declared.lattice.Span.{Span}
+use Rattle.mz_base.specs.declared.user.TheConstants.{MOST_USER_ROWS}
 use Rattle.mz_base.specs.declared.user.UserRow.{UserRow}
 use Rattle.conversion_meaning.specs.Best.{IsBest}
+use Rattle.conversion_meaning.specs.Bounds.{IsWithin, most_entries, most_step}
 use Rattle.conversion_meaning.specs.Certificates.{Claim, IsCertificate}
 use Rattle.conversion_meaning.specs.Entries.{entries}
-use Rattle.conversion_meaning.specs.Lattices.{IsKey, AreBounds, IsByEnd, IsWellFormed}
+use Rattle.conversion_meaning.specs.Lattices.{entry, IsKey, AreBounds, IsByEnd, IsWellFormed}
 use Rattle.conversion_meaning.specs.Order.{IsBefore}
 use Rattle.conversion_meaning.specs.Paths.{IsPathOver, IsSpan, path_cost}
-use Rattle.conversion_meaning.specs.Potentials.{AreLeastCosts}
+use Rattle.conversion_meaning.specs.Potentials.{IsLeastCost, AreLeastCosts}
 
 -- of two different paths exactly one is before the other
 abbrev pub OneIsBefore : Type 0
@@ -47,3 +49,18 @@ EntriesAreWellFormed =
 abbrev pub LeastCostsCertify : Type 0
 LeastCostsCertify =
     (l : Lattice) (c : Claim) → IsSpan c.lists l c.span → AreLeastCosts c.lists c.entries c.span c.potentials → IsBest c.lists c.entries c.span c.path → c.total ≡ path_cost c.lists c.entries c.span c.path → IsCertificate c
+
+-- a path costs no more than a step a character, and the last connection
+abbrev pub PathCostsAreSmall : Type 0
+PathCostsAreSmall =
+    (d : DataLists) (l : Lattice) (span : Span) (path : List ℕ) → AreDataSound d → IsWellFormed d l → IsSpan d l span → IsPathOver l.entries span path → IsWithin (most_step * (span.end - span.begin) + 1000000) (path_cost d l.entries span path)
+
+-- a least cost is no more than a step a character, up to the entry's end
+abbrev pub LeastCostsAreSmall : Type 0
+LeastCostsAreSmall =
+    (d : DataLists) (l : Lattice) (span : Span) (o : ℕ) (cost : ℤ) → AreDataSound d → IsWellFormed d l → IsSpan d l span → o < length l.entries → IsLeastCost d l.entries span o cost → IsWithin (most_step * ((entry l.entries o).end - span.begin)) cost
+
+-- ordinals are small
+abbrev pub EntriesAreFew : Type 0
+EntriesAreFew =
+    (d : DataLists) (rows : List UserRow) (key bounds : List ℕ) → AreDataSound d → length rows ≤ MOST_USER_ROWS → IsKey key → length (entries d rows key bounds) ≤ most_entries

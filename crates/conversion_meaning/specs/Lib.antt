@@ -1,5 +1,6 @@
 pub mod AllPaths
 pub mod Best
+pub mod Bounds
 pub mod Certificates
 pub mod Entries
 pub mod Examples

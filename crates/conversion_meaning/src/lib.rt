@@ -3,12 +3,14 @@
 #![tactic(auto)]
 
 mod best;
+mod bounds;
 mod certificates;
 mod entries;
 mod examples;
 mod order;
 
 pub use best::{best_is_one, one_is_best};
+pub use bounds::{entries_are_few, least_costs_are_small, path_costs_are_small};
 pub use certificates::{least_costs_certify, none_costs_less};
 pub use entries::entries_are_well_formed;
 pub use examples::{digits, kyouha, kyouha_cut, mo};
