@@ -7,4 +7,5 @@ pub mod EntryLemmas
 pub mod LeastCosts
 pub mod Counts
 pub mod CostBounds
+pub mod VerdictLemmas
 pub mod Tests

@@ -4,6 +4,7 @@ use Rattle.mz_base.specs.Data.{DataLists, AreDataSound}
 use Rattle.mz_base.specs.declared.lattice.Entry.{Entry}
 use Rattle.mz_base.specs.declared.lattice.Lattice.{Lattice}
 use Rattle.mz_base.specs.declared.lattice.Span.{Span}
+use Rattle.mz_base.specs.declared.status.CertFault.{CertFault}
 use Rattle.mz_base.specs.declared.user.TheConstants.{MOST_USER_ROWS}
 use Rattle.mz_base.specs.declared.user.UserRow.{UserRow}
 use Rattle.conversion_meaning.specs.Best.{IsBest}
@@ -14,6 +15,7 @@ use Rattle.conversion_meaning.specs.Lattices.{entry, IsKey, AreBounds, IsByEnd, 
 use Rattle.conversion_meaning.specs.Order.{IsBefore}
 use Rattle.conversion_meaning.specs.Paths.{IsPathOver, IsSpan, path_cost}
 use Rattle.conversion_meaning.specs.Potentials.{IsLeastCost, AreLeastCosts}
+use Rattle.conversion_meaning.specs.Verdicts.{IsFault}
 
 -- of two different paths exactly one is before the other
 abbrev pub OneIsBefore : Type 0
@@ -64,3 +66,11 @@ LeastCostsAreSmall =
 abbrev pub EntriesAreFew : Type 0
 EntriesAreFew =
     (d : DataLists) (rows : List UserRow) (key bounds : List ℕ) → AreDataSound d → length rows ≤ MOST_USER_ROWS → IsKey key → length (entries d rows key bounds) ≤ most_entries
+
+-- a certificate has no fault
+abbrev pub CertificatesHaveNoFault : Type 0
+CertificatesHaveNoFault = (c : Claim) (fault : CertFault) → IsCertificate c → ¬ (IsFault c fault)
+
+-- a claim has one fault at most
+abbrev pub FaultIsOne : Type 0
+FaultIsOne = (c : Claim) (fault other : CertFault) → IsFault c fault → IsFault c other → fault ≡ other

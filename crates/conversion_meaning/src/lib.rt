@@ -11,7 +11,9 @@ mod order;
 
 pub use best::{best_is_one, one_is_best};
 pub use bounds::{entries_are_few, least_costs_are_small, path_costs_are_small};
-pub use certificates::{least_costs_certify, none_costs_less};
+pub use certificates::{
+    certificates_have_no_fault, fault_is_one, least_costs_certify, none_costs_less,
+};
 pub use entries::entries_are_well_formed;
 pub use examples::{digits, kyouha, kyouha_cut, mo};
 pub use order::{before_goes_on, one_is_before};
