@@ -15,12 +15,13 @@ use Rattle.mz_base.specs.declared.lattice.Entry.{Entry}
 use Rattle.mz_base.specs.declared.lattice.Span.{Span}
 use Rattle.conversion_meaning.specs.AllPaths.{all_paths}
 use Rattle.conversion_meaning.specs.Best.{IsBest}
-use Rattle.conversion_meaning.specs.Certificates.{Claim, IsSide, IsEdge, AreMet, IsCertificate, count_of, source_end, target_begin, target_potential, cost_along}
+use Rattle.conversion_meaning.specs.Certificates.{Claim, IsSide, IsEdge, IsMet, AreMet, IsCertificate, count_of, source_end, target_begin, target_potential, cost_along}
 use Rattle.conversion_meaning.specs.Entries.{entries}
 use Rattle.conversion_meaning.specs.Examples.{Worked, span_of}
 use Rattle.conversion_meaning.specs.Order.{IsBefore}
 use Rattle.conversion_meaning.specs.Paths.{IsPath, IsPathOver, path_cost}
 use Rattle.conversion_meaning.specs.Lattices.{entry, no_entry}
+use Rattle.conversion_meaning.specs.Verdicts.{IsEarlier, IsFirstUnmet, IsEdgeFault, IsTotalFault, source_rank, target_rank}
 use Rattle.conversion_meaning.proofs.Duality.{AreForward}
 use Rattle.conversion_meaning.proofs.Lists.{Among, Among-map, Among-range, Among-get_or}
 use Rattle.conversion_meaning.proofs.PathLemmas.{Among-all_paths}
@@ -117,6 +118,65 @@ module _ (c : Claim) where
       let row = at_each (λ x. list_all (is_met x) sides) sides source passes (Among-sides source edge.source_is) in
       let here = at_each (is_met source) sides target row (Among-sides target edge.target_is) in
       elim (either (not (eqb (source_end c source) (target_begin c target))) _ here) [ inl apart ↦ absurd (let touch = edge.touch in grind (arith, nat_tests)) | inr met ↦ (let low = negated (int_lt (cost_along c source target) (target_potential c target)) met in grind (arith, ints)) ]
+
+  abbrev is_before : Option ℕ → Option ℕ → Option ℕ → Option ℕ → Bool
+  is_before source target other_source other_target =
+      ltb (target_rank c target) (target_rank c other_target) || (eqb (target_rank c target) (target_rank c other_target) && ltb (source_rank source) (source_rank other_source))
+
+  passes_before : (s t u v : Option ℕ) → IsEarlier c s t u v → is_before s t u v ≡ true
+  passes_before s t u v (inl less) = grind (arith, nat_tests)
+  passes_before s t u v (inr (same, less)) = grind (arith, nat_tests)
+
+  -- each edge before this one is met
+  abbrev pub are_met_before : Option ℕ → Option ℕ → Bool
+  are_met_before u v =
+      list_all (λ s. list_all (λ t. not (is_before s t u v) || is_met s t) sides) sides
+
+  -- this edge touches, and is not met
+  abbrev pub is_unmet : Option ℕ → Option ℕ → Bool
+  is_unmet source target =
+      eqb (source_end c source) (target_begin c target) && int_lt (cost_along c source target) (target_potential c target)
+
+  IsMet-by_test : (s t : Option ℕ) → IsEdge c s t → is_met s t ≡ true → IsMet c s t
+  IsMet-by_test s t edge passes =
+      elim (either (not (eqb (source_end c s) (target_begin c t))) _ passes) [ inl apart ↦ absurd (let touch = edge.touch in grind (arith, nat_tests)) | inr met ↦ (let low = negated (int_lt (cost_along c s t) (target_potential c t)) met in grind (arith, ints)) ]
+
+  pub IsFirstUnmet-by_tests : (u v : Option ℕ) → IsSide c u → IsSide c v → (is_unmet u v && are_met_before u v) ≡ true → IsFirstUnmet c u v
+  IsFirstUnmet-by_tests u v u_is v_is passes =
+      let a = both (is_unmet u v) (are_met_before u v) passes in
+      let b = both (eqb (source_end c u) (target_begin c v)) (int_lt (cost_along c u v) (target_potential c v)) a.0 in
+      record { edge = record { source_is = u_is; target_is = v_is; touch = grind (arith, nat_tests, b.0) }; unmet = record { lt = grind (arith, nat_tests, b.1) }; earlier = λ s t edge before. met a.1 s t edge before }
+    where
+      met : are_met_before u v ≡ true → (s t : Option ℕ) → IsEdge c s t → IsEarlier c s t u v → IsMet c s t
+      met all s t edge before =
+          let row = at_each (λ x. list_all (λ y. not (is_before x y u v) || is_met x y) sides) sides s all (Among-sides s edge.source_is) in
+          let here = at_each (λ y. not (is_before s y u v) || is_met s y) sides t row (Among-sides t edge.target_is) in
+          elim (either (not (is_before s t u v)) (is_met s t) here) [ inl later ↦ absurd (let f = negated (is_before s t u v) later in let g = passes_before s t u v before in let clash : true ≡ false = sym g ∙ f in cc) | inr passed ↦ IsMet-by_test s t edge passed ]
+
+  -- the numbers are equal, and the ordinals are a path
+  abbrev pub is_given : Bool
+  is_given =
+      eqb (length c.potentials) (count_of c) && is_path c.entries c.span.begin c.span.end c.path
+
+  pub given_count : is_given ≡ true → length c.potentials ≡ count_of c
+  given_count passes =
+      let r = both (eqb (length c.potentials) (count_of c)) _ passes in
+      grind (arith, nat_tests, r.0)
+
+  pub given_path : is_given ≡ true → IsPathOver c.entries c.span c.path
+  given_path passes =
+      IsPath-by_test c.entries c.span.begin c.span.end c.path (both (eqb (length c.potentials) (count_of c)) _ passes).1
+
+  pub IsEdgeFault-by_tests : (u v : Option ℕ) → IsSide c u → IsSide c v → (is_given && (is_unmet u v && are_met_before u v)) ≡ true → IsEdgeFault c u v
+  IsEdgeFault-by_tests u v u_is v_is passes =
+      let a = both is_given _ passes in
+      record { count = given_count a.0; joined = given_path a.0; first = IsFirstUnmet-by_tests u v u_is v_is a.1 }
+
+  pub IsTotalFault-by_tests : (said found : ℤ) → said ≡ c.total → said ≢ found → (is_given && (are_met && int_eq found (path_cost c.lists c.entries c.span c.path))) ≡ true → IsTotalFault c said found
+  IsTotalFault-by_tests said found said_is differ passes =
+      let a = both is_given _ passes in
+      let b = both are_met _ a.1 in
+      record { count = given_count a.0; joined = given_path a.0; edges = AreMet-by_test b.0; said_is = said_is; found_is = same_number found (path_cost c.lists c.entries c.span c.path) b.1; differ = differ }
 
 -- the path is the best, and with potentials and total a certificate
 abbrev pub is_worked : Claim → Bool

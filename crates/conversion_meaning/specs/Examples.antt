@@ -1,15 +1,17 @@
 -- Worked examples: a small data set, and what its definitions give for some keys.
-use Rattle.std.specs.Prelude.{◌≡◌, ℕ, ℤ, pos, List, [], ◌∷◌, ◌++◌, length}
+use Rattle.std.specs.Prelude.{◌≡◌, ℕ, ℤ, pos, List, [], ◌∷◌, ◌++◌, Some, None, length}
 use Rattle.mz_base.specs.Data.{DataLists, no_unknown}
 use Rattle.mz_base.specs.declared.data.WordRow.{WordRow}
 use Rattle.mz_base.specs.declared.data.UnknownRow.{UnknownRow}
 use Rattle.mz_base.specs.declared.lattice.Entry.{Entry}
 use Rattle.mz_base.specs.declared.lattice.Source.{Source}
+use Rattle.mz_base.specs.declared.status.CertFault.TheVariants as fault
 use Rattle.mz_base.specs.declared.lattice.Source.TheVariants.{User, Word, Char, Run}
 use Rattle.mz_base.specs.declared.lattice.Span.{Span}
 use Rattle.conversion_meaning.specs.Best.{IsBest}
-use Rattle.conversion_meaning.specs.Certificates.{IsCertificate}
+use Rattle.conversion_meaning.specs.Certificates.{Claim, IsCertificate}
 use Rattle.conversion_meaning.specs.Entries.{entries}
+use Rattle.conversion_meaning.specs.Verdicts.{IsFault}
 
 abbrev pub word_row : List ℕ → ℕ → ℕ → ℕ → List ℕ → WordRow
 word_row reading lid rid cost value =
@@ -109,3 +111,27 @@ Mo =
 abbrev pub Digits : Type 0
 Digits =
     Worked set digits [] digit_entries (1 ∷ []) (pos 6100 ∷ pos 6100 ∷ pos 12500 ∷ pos 18900 ∷ pos 25300 ∷ []) (pos 6200)
+
+-- the certificate of きょうは with another path, other potentials or another total
+abbrev pub claim_with : List ℕ → List ℤ → ℤ → Claim
+claim_with path potentials total =
+    record { lists = set; entries = kyouha_entries; span = span_of 4; path = path; potentials = potentials; total = total }
+
+abbrev pub kyouha_potentials : List ℤ
+kyouha_potentials = pos 5100 ∷ pos 400 ∷ pos 450 ∷ pos 10500 ∷ pos 15900 ∷ pos 550 ∷ pos 1400 ∷ pos 5800 ∷ []
+
+-- 600 in place of 550, the potential of は
+abbrev pub raised_potentials : List ℤ
+raised_potentials = pos 5100 ∷ pos 400 ∷ pos 450 ∷ pos 10500 ∷ pos 15900 ∷ pos 600 ∷ pos 1400 ∷ pos 5800 ∷ []
+
+abbrev pub seven_potentials : List ℤ
+seven_potentials = pos 5100 ∷ pos 400 ∷ pos 450 ∷ pos 10500 ∷ pos 15900 ∷ pos 550 ∷ pos 1400 ∷ []
+
+-- what is wrong with changed certificates of きょうは
+pub record KyouhaFaults : Type 0 where
+  pub low_total : IsFault (claim_with (1 ∷ 5 ∷ []) kyouha_potentials (pos 749)) (fault.Total (pos 749) (pos 750))
+  pub high_total : IsFault (claim_with (1 ∷ 5 ∷ []) kyouha_potentials (pos 751)) (fault.Edge (Some 5) None)
+  pub high_potential : IsFault (claim_with (1 ∷ 5 ∷ []) raised_potentials (pos 750)) (fault.Edge (Some 1) (Some 5))
+  pub few_potentials : IsFault (claim_with (1 ∷ 5 ∷ []) seven_potentials (pos 750)) (fault.Length 8 7)
+  pub dearer_path : IsFault (claim_with (1 ∷ 6 ∷ []) kyouha_potentials (pos 750)) (fault.Total (pos 750) (pos 1500))
+  pub short_path : IsFault (claim_with (1 ∷ []) kyouha_potentials (pos 750)) (fault.Path 1)

@@ -1,4 +1,4 @@
-ghost use Rattle.conversion_meaning.specs.Examples.{Kyouha, KyouhaCut, Mo, Digits};
+ghost use Rattle.conversion_meaning.specs.Examples.{Kyouha, KyouhaCut, KyouhaFaults, Mo, Digits};
 
 /// きょうは in the example's set: its entries, its best path and the certificate.
 pub fn kyouha()
@@ -18,4 +18,9 @@ pub fn mo()
 /// A run of digits.
 pub fn digits()
     ensures { Digits }
+{}
+
+/// What is wrong with changed certificates of きょうは.
+pub fn kyouha_faults()
+    ensures { KyouhaFaults }
 {}

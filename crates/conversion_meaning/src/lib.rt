@@ -15,5 +15,5 @@ pub use certificates::{
     certificates_have_no_fault, fault_is_one, least_costs_certify, none_costs_less,
 };
 pub use entries::entries_are_well_formed;
-pub use examples::{digits, kyouha, kyouha_cut, mo};
+pub use examples::{digits, kyouha, kyouha_cut, kyouha_faults, mo};
 pub use order::{before_goes_on, one_is_before};
