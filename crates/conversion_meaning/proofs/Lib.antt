@@ -7,5 +7,6 @@ pub mod EntryLemmas
 pub mod LeastCosts
 pub mod Counts
 pub mod CostBounds
+pub mod LatticeLemmas
 pub mod VerdictLemmas
 pub mod Tests

@@ -1,5 +1,5 @@
 -- Well-formed lattices: docs/CONVERSION.md, "Lattice".
-use Rattle.std.specs.Prelude.{◌≡◌, ℕ, ◌+◌, ◌<◌, ◌≤◌, pos, false, List, length, All, AllPairs, Contains, slice_index_or}
+use Rattle.std.specs.Prelude.{◌≡◌, ℕ, ◌+◌, ◌<◌, ◌≤◌, pos, false, List, length, All, AllPairs, Contains, slice_index, slice_index_or}
 use Rattle.std.specs.List.Sorted.{IsStrictlyIncreasing}
 use Rattle.mz_base.specs.Data.{DataLists, IsCost}
 use Rattle.mz_base.specs.declared.lattice.TheConstants.{MOST_KEY}
@@ -64,3 +64,9 @@ pub record IsWellFormed (d : DataLists) (l : Lattice) : Type 0 where
   pub rising : AllPairs AreInOrder l.entries
   pub characters : (position : ℕ) → position < length l.key → HasCharacter l.entries position
   pub by_end : IsByEnd l.entries l.by_end
+
+-- the place in the order of ends before which entries end before this position, and from which on they do not
+pub record IsCursor (es : List Entry) (by_end : List ℕ) (position cursor : ℕ) : Type 0 where
+  pub within : cursor ≤ length by_end
+  pub before : (k : ℕ) → k < cursor → (entry es (slice_index by_end k)).end < position
+  pub after : (k : ℕ) → cursor ≤ k → k < length by_end → position ≤ (entry es (slice_index by_end k)).end

@@ -1,5 +1,6 @@
 -- The laws of what a conversion means.
-use Rattle.std.specs.Prelude.{◌≡◌, ◌≢◌, ℕ, ◌+◌, ◌-◌, ◌*◌, ◌<◌, ◌≤◌, ℤ, ◌≤ℤ◌, ◌⊎◌, List, length}
+use Rattle.std.specs.Prelude.{◌≡◌, ◌≢◌, ℕ, ◌+◌, ◌-◌, ◌*◌, ◌<◌, ◌≤◌, ℤ, ◌≤ℤ◌, ◌⊎◌, List, length, slice_index}
+use Rattle.std.specs.List.{range_with_len}
 use Rattle.mz_base.specs.Data.{DataLists, AreDataSound}
 use Rattle.mz_base.specs.declared.lattice.Entry.{Entry}
 use Rattle.mz_base.specs.declared.lattice.Lattice.{Lattice}
@@ -11,10 +12,10 @@ use Rattle.conversion_meaning.specs.Best.{IsBest}
 use Rattle.conversion_meaning.specs.Bounds.{IsWithin, most_entries, most_step}
 use Rattle.conversion_meaning.specs.Certificates.{Claim, IsCertificate}
 use Rattle.conversion_meaning.specs.Entries.{entries}
-use Rattle.conversion_meaning.specs.Lattices.{entry, IsKey, AreBounds, IsByEnd, IsWellFormed}
+use Rattle.conversion_meaning.specs.Lattices.{entry, IsKey, AreBounds, IsByEnd, IsCursor, IsWellFormed}
 use Rattle.conversion_meaning.specs.Order.{IsBefore}
-use Rattle.conversion_meaning.specs.Paths.{IsPathOver, IsSpan, path_cost}
-use Rattle.conversion_meaning.specs.Potentials.{IsLeastCost, AreLeastCosts}
+use Rattle.conversion_meaning.specs.Paths.{IsPathOver, IsSpan, path_cost, whole}
+use Rattle.conversion_meaning.specs.Potentials.{IsLeastCost, AreLeastCosts, ordinals_in}
 use Rattle.conversion_meaning.specs.Verdicts.{IsFault}
 
 -- of two different paths exactly one is before the other
@@ -74,3 +75,23 @@ CertificatesHaveNoFault = (c : Claim) (fault : CertFault) → IsCertificate c �
 -- a claim has one fault at most
 abbrev pub FaultIsOne : Type 0
 FaultIsOne = (c : Claim) (fault other : CertFault) → IsFault c fault → IsFault c other → fault ≡ other
+
+-- an entry that ends where another begins comes before it
+abbrev pub SourcesComeFirst : Type 0
+SourcesComeFirst =
+    (d : DataLists) (l : Lattice) (source target : ℕ) → IsWellFormed d l → source < length l.entries → target < length l.entries → (entry l.entries source).end ≡ (entry l.entries target).begin → source < target
+
+-- all entries are entries of the whole key
+abbrev pub WholeHasAll : Type 0
+WholeHasAll =
+    (d : DataLists) (l : Lattice) (left : ℕ) → IsWellFormed d l → ordinals_in l.entries (whole l left) ≡ range_with_len 0 (length l.entries)
+
+-- in the order of ends the first entry that does not end before a position stands at its cursor
+abbrev pub CursorsAreFirst : Type 0
+CursorsAreFirst =
+    (es : List Entry) (by_end : List ℕ) (position cursor : ℕ) → IsByEnd es by_end → cursor ≤ length by_end → ((k : ℕ) → k < cursor → (entry es (slice_index by_end k)).end < position) → (cursor < length by_end → position ≤ (entry es (slice_index by_end cursor)).end) → IsCursor es by_end position cursor
+
+-- an entry that ends at a position stands in the order of ends from the position's cursor on
+abbrev pub EndsAreFound : Type 0
+EndsAreFound =
+    (es : List Entry) (by_end : List ℕ) (position cursor o : ℕ) → IsByEnd es by_end → IsCursor es by_end position cursor → o < length es → (entry es o).end ≡ position → (k : ℕ) × (cursor ≤ k) × (k < length by_end) × (slice_index by_end k ≡ o)

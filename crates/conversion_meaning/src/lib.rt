@@ -7,6 +7,7 @@ mod bounds;
 mod certificates;
 mod entries;
 mod examples;
+mod lattices;
 mod order;
 
 pub use best::{best_is_one, one_is_best};
@@ -16,4 +17,5 @@ pub use certificates::{
 };
 pub use entries::entries_are_well_formed;
 pub use examples::{digits, kyouha, kyouha_cut, kyouha_faults, mo};
+pub use lattices::{cursors_are_first, ends_are_found, sources_come_first, whole_has_all};
 pub use order::{before_goes_on, one_is_before};
