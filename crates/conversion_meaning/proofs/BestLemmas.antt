@@ -1,5 +1,5 @@
 -- Of finitely many paths one is before all others.
-use Rattle.std.proofs.Common.{◌≡◌, refl, sym, ap, ◌∙◌, subst, ℕ, ◌-◌, ◌+◌, ◌<◌, ◌≤◌, ◌⊎◌, inl, inr, List, [], ◌∷◌, length, arith}
+use Rattle.std.proofs.Common.{◌≡◌, refl, sym, subst, ℕ, ◌-◌, ◌⊎◌, inl, inr, List, [], ◌∷◌, length, arith}
 use Rattle.std.specs.Prelude.{◌≢◌}
 use Rattle.mz_base.specs.Data.{DataLists}
 use Rattle.mz_base.specs.declared.lattice.Entry.{Entry}

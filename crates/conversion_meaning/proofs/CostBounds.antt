@@ -1,16 +1,16 @@
 -- How much a path costs at most.
-use Rattle.std.proofs.Common.{◌≡◌, refl, sym, ap, ◌∙◌, subst, ℕ, ◌+◌, ◌-◌, ◌*◌, ◌<◌, ◌≤◌, List, [], ◌∷◌, length, arith}
-use Rattle.std.specs.Prelude.{ℤ, pos, neg_ℤ, ◌+ℤ◌, ◌≤ℤ◌}
+use Rattle.std.proofs.Common.{◌≡◌, ℕ, ◌+◌, ◌-◌, ◌*◌, ◌<◌, List, [], ◌∷◌, length, arith}
+use Rattle.std.specs.Prelude.{ℤ}
 use Rattle.std.specs.List.{All}
 use Rattle.std.proofs.lemmas.Int.{ints}
-use Rattle.mz_base.specs.Data.{DataLists, AreDataSound, IsCost, connection}
+use Rattle.mz_base.specs.Data.{DataLists, AreDataSound}
 use Rattle.mz_base.specs.declared.lattice.Entry.{Entry}
 use Rattle.mz_base.specs.declared.lattice.Lattice.{Lattice}
 use Rattle.mz_base.specs.declared.lattice.Span.{Span}
 use Rattle.conversion_meaning.specs.Bounds.{IsWithin, most_step}
 use Rattle.conversion_meaning.specs.Lattices.{IsEntry, IsWellFormed, entry, no_entry}
 use Rattle.conversion_meaning.specs.Paths.{IsPath, IsPathOver, IsSpan, cost_between, path_cost}
-use Rattle.conversion_meaning.specs.Potentials.{IsLeastCost, cost_to}
+use Rattle.conversion_meaning.specs.Potentials.{IsLeastCost}
 use Rattle.conversion_meaning.proofs.Duality.{AreForward, IsPath-forward}
 
 module _ (d : DataLists) (sound : AreDataSound d) (key bounds : List ℕ) (es : List Entry) (are : All (IsEntry d key bounds) es) where

@@ -1,5 +1,5 @@
 -- How many entries a key has at most.
-use Rattle.std.proofs.Common.{◌≡◌, refl, sym, ap, ◌∙◌, subst, ℕ, zero, suc, ◌+◌, ◌-◌, ◌*◌, ◌<◌, ◌≤◌, Bool, true, false, cond, eqb, ◌⊎◌, inl, inr, List, [], ◌∷◌, ◌++◌, map, Option, Some, None, length, get_or, take, drop, arith, length-append, length-take, length-drop, mul-suc}
+use Rattle.std.proofs.Common.{◌≡◌, refl, sym, ap, ℕ, zero, suc, ◌+◌, ◌-◌, ◌*◌, ◌<◌, ◌≤◌, Bool, true, false, cond, eqb, inl, inr, List, [], ◌∷◌, ◌++◌, map, Option, Some, None, length, get_or, drop, arith, length-append, length-take, length-drop, mul-suc}
 use Rattle.std.specs.Prelude.{slice_range}
 use Rattle.std.specs.List.{cons_option, filter, filter_map, flat_map, range_with_len}
 use Rattle.std.proofs.lemmas.List.{length-map}
@@ -8,7 +8,6 @@ use Rattle.std.specs.Cmp.Lexicographic.{same_text}
 use Rattle.mz_base.specs.Data.{DataLists, AreDataSound, is_text, places, readings, rows_with}
 use Rattle.mz_base.specs.Users.{user_rows_with}
 use Rattle.mz_base.specs.declared.data.WordRow.{WordRow}
-use Rattle.mz_base.specs.declared.data.TheConstants.{MOST_WORDS}
 use Rattle.mz_base.specs.declared.lattice.Entry.{Entry}
 use Rattle.mz_base.specs.declared.user.UserRow.{UserRow}
 use Rattle.mz_base.specs.declared.user.TheConstants.{MOST_USER_ROWS}

@@ -1,16 +1,16 @@
 -- No path costs less than the total of a certificate.
-use Rattle.std.proofs.Common.{◌≡◌, refl, sym, ap, ◌∙◌, subst, ℕ, ◌+◌, ◌<◌, ◌≤◌, Bool, true, ◌&&◌, List, [], ◌∷◌, Option, Some, None, length, get_or, arith}
-use Rattle.std.specs.Prelude.{ℤ, pos, ◌+ℤ◌, ◌≤ℤ◌, nat_le, slice_index}
-use Rattle.std.specs.List.{All, filter, range_with_len}
+use Rattle.std.proofs.Common.{◌≡◌, sym, ap, ◌∙◌, subst, ℕ, ◌<◌, ◌≤◌, true, List, [], ◌∷◌, Option, Some, None, length, get_or, arith}
+use Rattle.std.specs.Prelude.{pos, ◌+ℤ◌, ◌≤ℤ◌}
+use Rattle.std.specs.List.{filter, range_with_len}
 use Rattle.std.proofs.lemmas.Bool.Decides.{nat_tests}
 use Rattle.std.proofs.lemmas.Int.{ints}
-use Rattle.mz_base.specs.Data.{DataLists, connection}
+use Rattle.mz_base.specs.Data.{connection}
 use Rattle.mz_base.specs.declared.lattice.Entry.{Entry}
 use Rattle.mz_base.specs.declared.lattice.Span.{Span}
-use Rattle.conversion_meaning.specs.Lattices.{entry, no_entry}
+use Rattle.conversion_meaning.specs.Lattices.{entry}
 use Rattle.conversion_meaning.specs.Paths.{IsPath, cost_between}
 use Rattle.conversion_meaning.specs.Potentials.{is_in, ordinals_in}
-use Rattle.conversion_meaning.specs.Certificates.{Claim, IsSide, IsEdge, AreMet, source_end, source_rid, source_potential, entry_in, potential}
+use Rattle.conversion_meaning.specs.Certificates.{Claim, IsSide, AreMet, source_end, source_rid, source_potential, entry_in, potential}
 use Rattle.conversion_meaning.proofs.Lists.{Among-range, Among-filter, place_of}
 
 -- entries begin before they end

@@ -1,20 +1,20 @@
 -- The entries of a key make a well-formed lattice.
-use Rattle.std.proofs.Common.{◌≡◌, refl, sym, ap, ◌∙◌, subst, ℕ, ◌+◌, ◌-◌, ◌<◌, ◌≤◌, Bool, true, false, cond, ◌&&◌, ◌||◌, eqb, ◌⊎◌, inl, inr, List, [], ◌∷◌, ◌++◌, map, Option, Some, None, length, get_or, arith, eq-eqb}
+use Rattle.std.proofs.Common.{◌≡◌, refl, sym, ap, ◌∙◌, subst, ℕ, ◌+◌, ◌-◌, ◌<◌, Bool, true, false, cond, ◌&&◌, eqb, inl, inr, List, [], ◌∷◌, ◌++◌, Option, Some, None, length, get_or, arith, eq-eqb}
 use Rattle.std.specs.Prelude.{ℤ, nat_lt, slice_range, IfSome}
-use Rattle.std.specs.List.{All, AllPairs, filter, filter_map, flat_map, list_any, range_with_len}
+use Rattle.std.specs.List.{All, AllPairs, list_any, range_with_len}
 use Rattle.std.specs.Option.{option_map}
 use Rattle.std.proofs.lemmas.Bool.Decides.{nat_tests}
 use Rattle.std.proofs.lemmas.List.{length-map}
-use Rattle.mz_base.specs.Data.{DataLists, AreDataSound, IsCost, IsNode, is_text, places, pos_of, readings, rows_with, unknown_of, word_at}
+use Rattle.mz_base.specs.Data.{DataLists, AreDataSound, IsCost, IsNode, is_text, places, pos_of, readings, rows_with, unknown_of}
 use Rattle.mz_base.specs.Users.{user_row_at, user_rows_with}
 use Rattle.mz_base.specs.declared.data.WordRow.{WordRow}
 use Rattle.mz_base.specs.declared.lattice.Entry.{Entry}
 use Rattle.mz_base.specs.declared.lattice.Lattice.{Lattice}
 use Rattle.mz_base.specs.declared.lattice.Source.{Source}
-use Rattle.mz_base.specs.declared.lattice.Source.TheVariants.{User, Word, Char, Run}
+use Rattle.mz_base.specs.declared.lattice.Source.TheVariants.{User, Char, Run}
 use Rattle.mz_base.specs.declared.user.UserRow.{UserRow}
 use Rattle.conversion_meaning.specs.Entries.{suppressed, entry_of, user_entry, word_entry, class_at, node, is_run, user_entries, word_entries, char_entries, run_entries, is_cut, entries_in, entries_from, entries}
-use Rattle.conversion_meaning.specs.Lattices.{IsKey, AreBounds, IsEntry, AreInOrder, HasCharacter, IsByEnd, IsWellFormed, entry, no_entry}
+use Rattle.conversion_meaning.specs.Lattices.{IsKey, AreBounds, IsEntry, AreInOrder, HasCharacter, IsByEnd, IsWellFormed, no_entry}
 use Rattle.conversion_meaning.proofs.Lists.{Among, Among-append_left, Among-append_right, Among-append_cases, from_map, from_filter, from_filter_map, Among-flat_map, from_flat_map, Among-range, from_range, place_of, All-from_among, Rises, Rises-all, Rises-flat_map, AllPairs-from_rises}
 
 -- an entry of this range, with ids that there are and a cost

@@ -1,14 +1,13 @@
 -- The order of a well-formed lattice, and its entries by end.
-use Rattle.std.proofs.Common.{◌≡◌, refl, sym, ap, ◌∙◌, subst, ℕ, ◌+◌, ◌<◌, ◌≤◌, Bool, true, cond, ◌&&◌, ◌⊎◌, inl, inr, List, [], ◌∷◌, length, get_or, arith}
-use Rattle.std.specs.Prelude.{nat_le, slice_index}
-use Rattle.std.specs.List.{AllPairs, filter, range_with_len}
+use Rattle.std.proofs.Common.{◌≡◌, refl, sym, ap, subst, ℕ, ◌<◌, ◌≤◌, Bool, true, ◌⊎◌, inl, inr, List, [], ◌∷◌, length, arith}
+use Rattle.std.specs.Prelude.{slice_index}
+use Rattle.std.specs.List.{filter, range_with_len}
 use Rattle.std.proofs.lemmas.Bool.Decides.{nat_tests}
 use Rattle.std.proofs.lemmas.List.{get_or_read}
 use Rattle.mz_base.specs.Data.{DataLists}
 use Rattle.mz_base.specs.declared.lattice.Entry.{Entry}
 use Rattle.mz_base.specs.declared.lattice.Lattice.{Lattice}
-use Rattle.mz_base.specs.declared.lattice.Span.{Span}
-use Rattle.conversion_meaning.specs.Lattices.{AreInEndOrder, IsByEnd, IsCursor, IsWellFormed, entry, no_entry}
+use Rattle.conversion_meaning.specs.Lattices.{IsByEnd, IsCursor, IsWellFormed, entry, no_entry}
 use Rattle.conversion_meaning.specs.Paths.{whole}
 use Rattle.conversion_meaning.specs.Potentials.{is_in, ordinals_in}
 use Rattle.conversion_meaning.proofs.Lists.{Among, from_range}

@@ -1,18 +1,18 @@
 -- Least costs and the best path make a certificate.
-use Rattle.std.proofs.Common.{◌≡◌, refl, sym, ap, ◌∙◌, subst, ℕ, ◌+◌, ◌<◌, ◌≤◌, ◌⊎◌, inl, inr, List, [], ◌∷◌, ◌++◌, Option, Some, None, length, get_or, arith}
-use Rattle.std.specs.Prelude.{◌≢◌, ℤ, pos, ◌+ℤ◌, ◌≤ℤ◌, slice_index}
-use Rattle.std.specs.List.{filter, range_with_len}
+use Rattle.std.proofs.Common.{◌≡◌, refl, sym, ap, ◌∙◌, subst, ℕ, ◌<◌, inl, inr, List, [], ◌∷◌, ◌++◌, Some, None, length, arith}
+use Rattle.std.specs.Prelude.{◌≢◌, ◌+ℤ◌, ◌≤ℤ◌, slice_index}
+use Rattle.std.specs.List.{range_with_len}
 use Rattle.std.proofs.lemmas.Int.{ints}
 use Rattle.mz_base.specs.Data.{DataLists, connection}
 use Rattle.mz_base.specs.declared.lattice.Entry.{Entry}
 use Rattle.mz_base.specs.declared.lattice.Lattice.{Lattice}
 use Rattle.mz_base.specs.declared.lattice.Span.{Span}
 use Rattle.conversion_meaning.specs.Best.{IsBest}
-use Rattle.conversion_meaning.specs.Certificates.{Claim, IsEdge, IsMet, AreMet, IsCertificate, entry_in, potential}
+use Rattle.conversion_meaning.specs.Certificates.{Claim, AreMet, IsCertificate, entry_in, potential}
 use Rattle.conversion_meaning.specs.Lattices.{entry}
 use Rattle.conversion_meaning.specs.Order.{IsBefore}
 use Rattle.conversion_meaning.specs.Paths.{IsPath, IsPathOver, IsSpan, cost_between, path_cost}
-use Rattle.conversion_meaning.specs.Potentials.{is_in, ordinals_in, cost_to, IsLeastCost, AreLeastCosts}
+use Rattle.conversion_meaning.specs.Potentials.{is_in, ordinals_in, AreLeastCosts}
 use Rattle.conversion_meaning.proofs.Lists.{Among-get_or, from_filter, from_range}
 use Rattle.conversion_meaning.proofs.Ordered.{order_cases, not_before_back}
 
@@ -86,6 +86,6 @@ module _ (c : Claim) (costs : AreLeastCosts c.lists c.entries c.span c.potential
       omega (arith, ints, here, e)
 
 -- least costs, the best path and its cost are a certificate
-pub IsCertificate-from_least : (l : Lattice) (c : Claim) → IsSpan c.lists l c.span → AreLeastCosts c.lists c.entries c.span c.potentials → IsBest c.lists c.entries c.span c.path → c.total ≡ path_cost c.lists c.entries c.span c.path → IsCertificate c
-IsCertificate-from_least l c is costs best sum =
-    record { count = costs.count; joined = best.joined; edges = AreMet-from_least c costs is.forward best sum; sum = sum }
+pub IsCertificate-from_least : (c : Claim) → c.span.begin < c.span.end → AreLeastCosts c.lists c.entries c.span c.potentials → IsBest c.lists c.entries c.span c.path → c.total ≡ path_cost c.lists c.entries c.span c.path → IsCertificate c
+IsCertificate-from_least c forward costs best sum =
+    record { count = costs.count; joined = best.joined; edges = AreMet-from_least c costs forward best sum; sum = sum }

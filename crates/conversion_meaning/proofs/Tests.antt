@@ -1,6 +1,6 @@
 -- Tests that compute whether a path of a small lattice is the best, and whether its potentials are a certificate.
-use Rattle.std.proofs.Common.{◌≡◌, refl, sym, ap, ◌∙◌, subst, ℕ, ◌+◌, ◌<◌, ◌≤◌, Bool, true, false, not, ◌&&◌, ◌||◌, eqb, ltb, ◌⊎◌, inl, inr, List, [], ◌∷◌, map, Option, Some, None, length, get_or, arith}
-use Rattle.std.specs.Prelude.{◌≢◌, ℤ, ◌<ℤ◌, ◌≤ℤ◌, int_lt, reverse}
+use Rattle.std.proofs.Common.{◌≡◌, refl, sym, ap, ◌∙◌, subst, ℕ, Bool, true, false, not, ◌&&◌, ◌||◌, eqb, ltb, ◌⊎◌, inl, inr, List, [], ◌∷◌, map, Option, Some, None, length, arith}
+use Rattle.std.specs.Prelude.{◌≢◌, ℤ, ◌<ℤ◌, int_lt, reverse}
 use Rattle.std.specs.declared.cmp.Ordering.{Ordering}
 use Rattle.std.specs.declared.cmp.Ordering.TheVariants.{Less, Equal, Greater}
 use Rattle.std.specs.Cmp.Lexicographic.{slice_cmp, same_text}
@@ -15,7 +15,7 @@ use Rattle.mz_base.specs.declared.lattice.Entry.{Entry}
 use Rattle.mz_base.specs.declared.lattice.Span.{Span}
 use Rattle.conversion_meaning.specs.AllPaths.{all_paths}
 use Rattle.conversion_meaning.specs.Best.{IsBest}
-use Rattle.conversion_meaning.specs.Certificates.{Claim, IsSide, IsEdge, IsMet, AreMet, IsCertificate, count_of, source_end, target_begin, target_potential, cost_along}
+use Rattle.conversion_meaning.specs.Certificates.{Claim, IsSide, IsEdge, IsMet, AreMet, count_of, source_end, target_begin, target_potential, cost_along}
 use Rattle.conversion_meaning.specs.Entries.{entries}
 use Rattle.conversion_meaning.specs.Examples.{Worked, span_of}
 use Rattle.conversion_meaning.specs.Order.{IsBefore}

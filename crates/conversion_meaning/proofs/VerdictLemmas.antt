@@ -1,13 +1,13 @@
 -- A claim has one verdict.
-use Rattle.std.proofs.Common.{◌≡◌, refl, sym, ap, ◌∙◌, subst, ℕ, zero, suc, ◌+◌, ◌<◌, ◌≤◌, ◌⊎◌, inl, inr, List, [], ◌∷◌, Option, Some, None, length, get_or, take, arith}
-use Rattle.std.specs.Prelude.{◌≢◌, ℤ, ◌<ℤ◌, slice_index}
+use Rattle.std.proofs.Common.{◌≡◌, refl, sym, ap, ◌∙◌, subst, ℕ, zero, suc, ◌<◌, ◌≤◌, ◌⊎◌, inl, inr, List, [], ◌∷◌, Option, Some, None, length, take, arith}
+use Rattle.std.specs.Prelude.{slice_index}
 use Rattle.std.proofs.lemmas.Int.{ints}
 use Rattle.std.proofs.lemmas.List.{take_all}
 use Rattle.mz_base.specs.declared.lattice.Entry.{Entry}
 use Rattle.mz_base.specs.declared.lattice.Span.{Span}
 use Rattle.mz_base.specs.declared.status.CertFault.{CertFault}
 use Rattle.mz_base.specs.declared.status.CertFault.TheVariants as fault
-use Rattle.conversion_meaning.specs.Certificates.{Claim, IsCertificate, IsSide, AreMet, count_of}
+use Rattle.conversion_meaning.specs.Certificates.{Claim, IsCertificate, IsSide, AreMet}
 use Rattle.conversion_meaning.specs.Lattices.{entry}
 use Rattle.conversion_meaning.specs.Paths.{IsPath, IsPathOver}
 use Rattle.conversion_meaning.specs.Verdicts.{BreaksAt, IsEarlier, IsFirstUnmet, IsFault, target_rank, source_rank}

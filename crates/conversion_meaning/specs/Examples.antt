@@ -1,12 +1,12 @@
 -- Worked examples: a small data set, and what its definitions give for some keys.
 use Rattle.std.specs.Prelude.{◌≡◌, ℕ, ℤ, pos, List, [], ◌∷◌, ◌++◌, Some, None, length}
-use Rattle.mz_base.specs.Data.{DataLists, no_unknown}
+use Rattle.mz_base.specs.Data.{DataLists}
 use Rattle.mz_base.specs.declared.data.WordRow.{WordRow}
 use Rattle.mz_base.specs.declared.data.UnknownRow.{UnknownRow}
 use Rattle.mz_base.specs.declared.lattice.Entry.{Entry}
 use Rattle.mz_base.specs.declared.lattice.Source.{Source}
 use Rattle.mz_base.specs.declared.status.CertFault.TheVariants as fault
-use Rattle.mz_base.specs.declared.lattice.Source.TheVariants.{User, Word, Char, Run}
+use Rattle.mz_base.specs.declared.lattice.Source.TheVariants.{Word, Char, Run}
 use Rattle.mz_base.specs.declared.lattice.Span.{Span}
 use Rattle.conversion_meaning.specs.Best.{IsBest}
 use Rattle.conversion_meaning.specs.Certificates.{Claim, IsCertificate}

@@ -51,7 +51,7 @@ EntriesAreWellFormed =
 -- least costs, the best path and its cost are a certificate
 abbrev pub LeastCostsCertify : Type 0
 LeastCostsCertify =
-    (l : Lattice) (c : Claim) → IsSpan c.lists l c.span → AreLeastCosts c.lists c.entries c.span c.potentials → IsBest c.lists c.entries c.span c.path → c.total ≡ path_cost c.lists c.entries c.span c.path → IsCertificate c
+    (c : Claim) → c.span.begin < c.span.end → AreLeastCosts c.lists c.entries c.span c.potentials → IsBest c.lists c.entries c.span c.path → c.total ≡ path_cost c.lists c.entries c.span c.path → IsCertificate c
 
 -- a path costs no more than a step a character, and the last connection
 abbrev pub PathCostsAreSmall : Type 0

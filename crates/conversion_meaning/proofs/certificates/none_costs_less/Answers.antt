@@ -1,7 +1,7 @@
-use Rattle.std.proofs.Common.{◌≡◌, sym, subst, ap, ℕ, length, ◌<◌, List, None, arith}
+use Rattle.std.proofs.Common.{sym, subst, List, None, arith}
 use Rattle.std.proofs.lemmas.Int.{ints}
 use Rattle.mz_base.specs.declared.lattice.Entry.{Entry}
-use Rattle.conversion_meaning.specs.Lattices.{entry, no_entry}
+use Rattle.conversion_meaning.specs.Lattices.{no_entry}
 use Rattle.conversion_meaning.proofs.Duality.{AreForward, total-le}
 use Rattle.conversion_meaning.proofs.certificates.none_costs_less.Goals as goal
 

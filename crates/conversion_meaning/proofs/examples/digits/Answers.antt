@@ -1,5 +1,4 @@
-use Rattle.std.proofs.Common.{List, [], ◌∷◌, ◌++◌, refl}
-use Rattle.std.specs.Prelude.{pos}
+use Rattle.std.proofs.Common.{refl}
 use Rattle.mz_base.specs.Classes.{class_of}
 use Rattle.mz_base.specs.Data.{connection, places, pos_of, unknown_of, word_at}
 use Rattle.conversion_meaning.specs.AllPaths.{all_paths}

@@ -1,8 +1,8 @@
-use Rattle.std.proofs.Common.{◌≡◌, ℕ, ◌<◌, List, [], ◌∷◌, Some, None, refl, lit<, arith}
-use Rattle.std.specs.Prelude.{◌≢◌, ℤ, pos}
+use Rattle.std.proofs.Common.{◌≡◌, [], ◌∷◌, Some, None, refl, lit<, arith}
+use Rattle.std.specs.Prelude.{pos}
 use Rattle.std.proofs.lemmas.Int.{ints}
 use Rattle.mz_base.specs.Data.{connection}
-use Rattle.conversion_meaning.specs.Examples.{claim_with, kyouha_potentials, raised_potentials, seven_potentials}
+use Rattle.conversion_meaning.specs.Examples.{claim_with, kyouha_potentials, raised_potentials}
 use Rattle.conversion_meaning.specs.Potentials.{ordinals_in}
 use Rattle.conversion_meaning.proofs.Tests.{IsEdgeFault-by_tests, IsTotalFault-by_tests}
 use Rattle.conversion_meaning.proofs.examples.kyouha_faults.Goals as goal
