@@ -1,0 +1,12 @@
+pub mod Lists
+pub mod Duality
+pub mod Ordered
+pub mod PathLemmas
+pub mod BestLemmas
+pub mod EntryLemmas
+pub mod LeastCosts
+pub mod Counts
+pub mod CostBounds
+pub mod LatticeLemmas
+pub mod VerdictLemmas
+pub mod Tests

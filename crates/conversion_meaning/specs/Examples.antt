@@ -1,0 +1,137 @@
+-- Worked examples: a small data set, and what its definitions give for some keys.
+use Rattle.std.specs.Prelude.{◌≡◌, ℕ, ℤ, pos, List, [], ◌∷◌, ◌++◌, Some, None, length}
+use Rattle.mz_base.specs.Data.{DataLists}
+use Rattle.mz_base.specs.declared.data.WordRow.{WordRow}
+use Rattle.mz_base.specs.declared.data.UnknownRow.{UnknownRow}
+use Rattle.mz_base.specs.declared.lattice.Entry.{Entry}
+use Rattle.mz_base.specs.declared.lattice.Source.{Source}
+use Rattle.mz_base.specs.declared.status.CertFault.TheVariants as fault
+use Rattle.mz_base.specs.declared.lattice.Source.TheVariants.{Word, Char, Run}
+use Rattle.mz_base.specs.declared.lattice.Span.{Span}
+use Rattle.conversion_meaning.specs.Best.{IsBest}
+use Rattle.conversion_meaning.specs.Certificates.{Claim, IsCertificate}
+use Rattle.conversion_meaning.specs.Entries.{entries}
+use Rattle.conversion_meaning.specs.Verdicts.{IsFault}
+
+abbrev pub word_row : List ℕ → ℕ → ℕ → ℕ → List ℕ → WordRow
+word_row reading lid rid cost value =
+    record { reading = reading; lid = lid; rid = rid; cost = pos cost; value = value }
+
+abbrev pub unknown_row : ℕ → ℕ → UnknownRow
+unknown_row id cost = record { id = id; cost = pos cost }
+
+-- きょう 今日 300, きょう 京 350, は は 100, は 葉 600
+abbrev pub words_of_set : List WordRow
+words_of_set =
+    word_row (0x304d ∷ 0x3087 ∷ 0x3046 ∷ []) 1 1 300 (0x4eca ∷ 0x65e5 ∷ []) ∷ word_row (0x304d ∷ 0x3087 ∷ 0x3046 ∷ []) 1 1 350 (0x4eac ∷ []) ∷ word_row (0x306f ∷ []) 2 2 100 (0x306f ∷ []) ∷ word_row (0x306f ∷ []) 1 1 600 (0x8449 ∷ []) ∷ []
+
+-- も 藻 300, も 喪 300
+abbrev pub seaweed_and_mourning : List WordRow
+seaweed_and_mourning = word_row (0x3082 ∷ []) 1 1 300 (0x85fb ∷ []) ∷ word_row (0x3082 ∷ []) 1 1 300 (0x55aa ∷ []) ∷ []
+
+-- three ids, and these words
+abbrev pub set_with : List WordRow → DataLists
+set_with words =
+    record {
+      ids = 3;
+      costs = pos 0 ∷ pos 100 ∷ pos 500 ∷ pos 100 ∷ pos 400 ∷ pos 50 ∷ pos 200 ∷ pos 100 ∷ pos 800 ∷ [];
+      unknown = unknown_row 1 5000 ∷ unknown_row 1 6000 ∷ unknown_row 1 6000 ∷ unknown_row 1 6000 ∷ unknown_row 1 6000 ∷ [];
+      joins = record { first_right = 1; last_right = 1; first_left = 2; last_left = 2 } ∷ [];
+      pos = [];
+      rules = [];
+      words = words;
+      symbols = [];
+      kanji = [];
+    }
+
+abbrev pub set : DataLists
+set = set_with words_of_set
+
+-- きょうは
+abbrev pub kyouha : List ℕ
+kyouha = 0x304d ∷ 0x3087 ∷ 0x3046 ∷ 0x306f ∷ []
+
+-- も
+abbrev pub mo : List ℕ
+mo = 0x3082 ∷ []
+
+-- 1203
+abbrev pub digits : List ℕ
+digits = 0x31 ∷ 0x32 ∷ 0x30 ∷ 0x33 ∷ []
+
+abbrev pub entry_with : ℕ → ℕ → ℕ → ℕ → ℕ → Source → Entry
+entry_with begin end lid rid cost source =
+    record { begin = begin; end = end; lid = lid; rid = rid; cost = pos cost; source = source }
+
+-- the whole of a key of this length
+abbrev pub span_of : ℕ → Span
+span_of length = record { begin = 0; end = length; left = 0; right = 0 }
+
+-- き, 今日, 京, ょ, う, は (the word), 葉, は (the character)
+abbrev pub kyouha_entries : List Entry
+kyouha_entries =
+    entry_with 0 1 1 1 5000 Char ∷ entry_with 0 3 1 1 300 (Word 0) ∷ entry_with 0 3 1 1 350 (Word 1) ∷ entry_with 1 2 1 1 5000 Char ∷ entry_with 2 3 1 1 5000 Char ∷ entry_with 3 4 2 2 100 (Word 2) ∷ entry_with 3 4 1 1 600 (Word 3) ∷ entry_with 3 4 1 1 5000 Char ∷ []
+
+-- き, ょ, う, は (the word), 葉, は (the character)
+abbrev pub cut_entries : List Entry
+cut_entries =
+    entry_with 0 1 1 1 5000 Char ∷ entry_with 1 2 1 1 5000 Char ∷ entry_with 2 3 1 1 5000 Char ∷ entry_with 3 4 2 2 100 (Word 2) ∷ entry_with 3 4 1 1 600 (Word 3) ∷ entry_with 3 4 1 1 5000 Char ∷ []
+
+-- 藻, 喪, も (the character)
+abbrev pub mo_entries : List Entry
+mo_entries = entry_with 0 1 1 1 300 (Word 4) ∷ entry_with 0 1 1 1 300 (Word 5) ∷ entry_with 0 1 1 1 5000 Char ∷ []
+
+-- 1, 1203, 2, 0, 3
+abbrev pub digit_entries : List Entry
+digit_entries =
+    entry_with 0 1 1 1 6000 Char ∷ entry_with 0 4 1 1 6000 Run ∷ entry_with 1 2 1 1 6000 Char ∷ entry_with 2 3 1 1 6000 Char ∷ entry_with 3 4 1 1 6000 Char ∷ []
+
+-- entries, a path, potentials and a total: the entries are the key's, the path is the best, and they are a certificate
+pub record Worked (d : DataLists) (key bounds : List ℕ) (es : List Entry) (path : List ℕ) (potentials : List ℤ) (total : ℤ) : Type 0 where
+  pub entries_are : entries d [] key bounds ≡ es
+  pub best : IsBest d es (span_of (length key)) path
+  pub certified : IsCertificate (record { lists = d; entries = es; span = span_of (length key); path = path; potentials = potentials; total = total })
+
+-- きょうは is 今日は
+abbrev pub Kyouha : Type 0
+Kyouha =
+    Worked set kyouha [] kyouha_entries (1 ∷ 5 ∷ []) (pos 5100 ∷ pos 400 ∷ pos 450 ∷ pos 10500 ∷ pos 15900 ∷ pos 550 ∷ pos 1400 ∷ pos 5800 ∷ []) (pos 750)
+
+-- with a bound after き it is that, character by character
+abbrev pub KyouhaCut : Type 0
+KyouhaCut =
+    Worked set kyouha (1 ∷ []) cut_entries (0 ∷ 1 ∷ 2 ∷ 3 ∷ []) (pos 5100 ∷ pos 10500 ∷ pos 15900 ∷ pos 16050 ∷ pos 16900 ∷ pos 21300 ∷ []) (pos 16250)
+
+-- of two words of one cost the one of the lower row is first
+abbrev pub Mo : Type 0
+Mo =
+    Worked (set_with (words_of_set ++ seaweed_and_mourning)) mo [] mo_entries (0 ∷ []) (pos 400 ∷ pos 400 ∷ pos 5100 ∷ []) (pos 500)
+
+-- digits are a run
+abbrev pub Digits : Type 0
+Digits =
+    Worked set digits [] digit_entries (1 ∷ []) (pos 6100 ∷ pos 6100 ∷ pos 12500 ∷ pos 18900 ∷ pos 25300 ∷ []) (pos 6200)
+
+-- the certificate of きょうは with another path, other potentials or another total
+abbrev pub claim_with : List ℕ → List ℤ → ℤ → Claim
+claim_with path potentials total =
+    record { lists = set; entries = kyouha_entries; span = span_of 4; path = path; potentials = potentials; total = total }
+
+abbrev pub kyouha_potentials : List ℤ
+kyouha_potentials = pos 5100 ∷ pos 400 ∷ pos 450 ∷ pos 10500 ∷ pos 15900 ∷ pos 550 ∷ pos 1400 ∷ pos 5800 ∷ []
+
+-- 600 in place of 550, the potential of は
+abbrev pub raised_potentials : List ℤ
+raised_potentials = pos 5100 ∷ pos 400 ∷ pos 450 ∷ pos 10500 ∷ pos 15900 ∷ pos 600 ∷ pos 1400 ∷ pos 5800 ∷ []
+
+abbrev pub seven_potentials : List ℤ
+seven_potentials = pos 5100 ∷ pos 400 ∷ pos 450 ∷ pos 10500 ∷ pos 15900 ∷ pos 550 ∷ pos 1400 ∷ []
+
+-- what is wrong with changed certificates of きょうは
+pub record KyouhaFaults : Type 0 where
+  pub low_total : IsFault (claim_with (1 ∷ 5 ∷ []) kyouha_potentials (pos 749)) (fault.Total (pos 749) (pos 750))
+  pub high_total : IsFault (claim_with (1 ∷ 5 ∷ []) kyouha_potentials (pos 751)) (fault.Edge (Some 5) None)
+  pub high_potential : IsFault (claim_with (1 ∷ 5 ∷ []) raised_potentials (pos 750)) (fault.Edge (Some 1) (Some 5))
+  pub few_potentials : IsFault (claim_with (1 ∷ 5 ∷ []) seven_potentials (pos 750)) (fault.Length 8 7)
+  pub dearer_path : IsFault (claim_with (1 ∷ 6 ∷ []) kyouha_potentials (pos 750)) (fault.Total (pos 750) (pos 1500))
+  pub short_path : IsFault (claim_with (1 ∷ []) kyouha_potentials (pos 750)) (fault.Path 1)

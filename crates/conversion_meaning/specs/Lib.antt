@@ -1,0 +1,13 @@
+pub mod AllPaths
+pub mod Best
+pub mod Bounds
+pub mod Certificates
+pub mod Entries
+pub mod Examples
+pub mod Lattices
+pub mod Laws
+pub mod Order
+pub mod Paths
+pub mod Potentials
+pub mod Values
+pub mod Verdicts
