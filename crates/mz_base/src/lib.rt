@@ -19,7 +19,7 @@ pub use event::{Event, Outcome};
 pub use fault::{Fault, FaultKind, ReadError, Role};
 pub use lines::{cut_fields, cut_lines, text_of_line};
 pub use memory::NoMemory;
-pub use numbers::{MOST_DIGITS, number};
+pub use numbers::{MOST_DIGITS, number, signed};
 pub use report::{Line, Mode, Word};
 pub use romaji::{Romaji, Rule, RuleView};
 pub use rows::{RowReader, read_rows};
