@@ -1,5 +1,6 @@
 pub mod Answers
 pub mod Faults
+pub mod FileLines
 pub mod Kana
 pub mod Lines
 pub mod Numbers

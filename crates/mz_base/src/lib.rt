@@ -17,7 +17,7 @@ mod text;
 
 pub use event::{Event, Outcome};
 pub use fault::{Fault, FaultKind, ReadError, Role};
-pub use lines::{cut_fields, cut_lines, text_of_line};
+pub use lines::{FileLines, cut_fields, cut_lines, text_of_line};
 pub use memory::NoMemory;
 pub use numbers::{MOST_DIGITS, number, signed};
 pub use report::{Line, Mode, Word};
