@@ -1,4 +1,6 @@
 pub mod Answers
+pub mod Classes
+pub mod Data
 pub mod Faults
 pub mod FileLines
 pub mod Kana
@@ -7,3 +9,4 @@ pub mod Numbers
 pub mod Reports
 pub mod Rows
 pub mod Statuses
+pub mod Users

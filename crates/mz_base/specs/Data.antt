@@ -1,0 +1,140 @@
+-- What a data set means, and what its look-ups answer: docs/FORMATS.md, "Data files".
+use Rattle.std.specs.Prelude.{◌≡◌, ℕ, ◌+◌, ◌-◌, ◌*◌, ◌<◌, ◌≤◌, ℤ, pos, ◌≤ℤ◌, Bool, ◌&&◌, List, [], map, filter, find, length, nat_eq, nat_le, slice_index_or, slice_range, Option, IfSome}
+use Rattle.std.specs.List.{starts_with, flat_map, list_any, range_with_len}
+use Rattle.std.specs.Option.{option_map}
+use lib.Pointwise.{pointwise}
+use Rattle.mz_base.specs.Kana.{AreRules}
+use Rattle.mz_base.specs.declared.romaji.Rule.{Rule}
+use Rattle.mz_base.specs.declared.data.TheConstants.{MOST_IDS, MOST_WORDS, MOST_COST, LEAST_COST}
+use Rattle.mz_base.specs.declared.data.Class.{Class}
+use Rattle.mz_base.specs.declared.data.Class.TheVariants.{Hiragana, Katakana, Digit, Letter, Other}
+use Rattle.mz_base.specs.declared.data.WordRow.{WordRow}
+use Rattle.mz_base.specs.declared.data.UnknownRow.{UnknownRow}
+use Rattle.mz_base.specs.declared.data.JoinRow.{JoinRow}
+use Rattle.mz_base.specs.declared.data.PosRow.{PosRow}
+use Rattle.mz_base.specs.declared.data.ValueRow.{ValueRow}
+use Rattle.mz_base.specs.declared.data.WordView.{WordView}
+use Rattle.mz_base.specs.declared.data.Hit.{Hit}
+
+-- the lists of a data set: the number of ids, the costs row by row, the five rows of the classes, and the rows of its files
+pub record DataLists : Type 0 where
+  pub ids : ℕ
+  pub costs : List ℤ
+  pub unknown : List UnknownRow
+  pub joins : List JoinRow
+  pub pos : List PosRow
+  pub rules : List Rule
+  pub words : List WordRow
+  pub symbols : List ValueRow
+  pub kanji : List ValueRow
+
+-- two texts are one
+abbrev pub is_text : List ℕ → List ℕ → Bool
+is_text text other = pointwise nat_eq other text
+
+-- the cost of a word with the right id r before one with the left id l
+unfoldable pub connection : DataLists → ℕ → ℕ → ℤ
+connection d r l = slice_index_or d.costs (r * d.ids + l) (pos 0)
+
+-- the row joins the right id r and the left id l
+abbrev pub row_joins : ℕ → ℕ → JoinRow → Bool
+row_joins r l row =
+    (nat_le row.first_right r && nat_le r row.last_right) && (nat_le row.first_left l && nat_le l row.last_left)
+
+-- some row joins them
+unfoldable pub joins : DataLists → ℕ → ℕ → Bool
+joins d r l = list_any (row_joins r l) d.joins
+
+-- the place of a class among the rows of the classes
+abbrev pub class_place : Class → ℕ
+class_place Hiragana = 0
+class_place Katakana = 1
+class_place Digit = 2
+class_place Letter = 3
+class_place Other = 4
+
+abbrev pub no_unknown : UnknownRow
+no_unknown = record { id = 0; cost = pos 0 }
+
+-- the id and the cost of a class
+unfoldable pub unknown_of : DataLists → Class → ℕ × ℤ
+unknown_of d class =
+    let row = slice_index_or d.unknown (class_place class) no_unknown in (row.id, row.cost)
+
+-- the id and the cost of a part of speech
+unfoldable pub pos_of : DataLists → List ℕ → Option (ℕ × ℤ)
+pos_of d name = option_map (λ (row : PosRow). (row.id, row.cost)) (find (λ row. is_text name row.name) d.pos)
+
+abbrev pub no_word : WordRow
+no_word = record { reading = []; lid = 0; rid = 0; cost = pos 0; value = [] }
+
+-- a word row by its place
+unfoldable pub word_at : DataLists → ℕ → WordRow
+word_at d row = slice_index_or d.words row no_word
+
+-- what a look-up lends is this word row
+pub record IsWord (view : WordView) (row : WordRow) : Type 0 where
+  pub reading_is : view.reading.now ≡ row.reading
+  pub lid_is : view.lid ≡ row.lid
+  pub rid_is : view.rid ≡ row.rid
+  pub cost_is : view.cost ≡ row.cost
+  pub value_is : view.value.now ≡ row.value
+
+-- the readings of the word rows
+abbrev pub readings : DataLists → List (List ℕ)
+readings d = map (λ (row : WordRow). row.reading) d.words
+
+-- the places of the texts that pass a test, rising
+unfoldable pub places : (List ℕ → Bool) → List (List ℕ) → List ℕ
+places passes texts = filter (λ i. passes (slice_index_or texts i [])) (range_with_len 0 (length texts))
+
+-- the places of this text
+abbrev pub rows_with : List (List ℕ) → List ℕ → List ℕ
+rows_with texts text = places (is_text text) texts
+
+-- the places of the texts that begin with this prefix
+abbrev pub rows_with_prefix : List (List ℕ) → List ℕ → List ℕ
+rows_with_prefix texts prefix = places (λ text. starts_with nat_eq text prefix) texts
+
+-- the hits at one end
+abbrev pub hits_to : List (List ℕ) → List ℕ → ℕ → ℕ → List Hit
+hits_to texts key begin end =
+    map (λ row. record { end = end; row = row }) (rows_with texts (slice_range key begin end))
+
+-- the rows whose text stands in the key from here on, by end and then by row
+unfoldable pub hits_at : List (List ℕ) → List ℕ → ℕ → List Hit
+hits_at texts key begin = flat_map (hits_to texts key begin) (range_with_len (begin + 1) (length key - begin))
+
+-- the values for a reading, in the order of the rows
+unfoldable pub values_of : List ValueRow → List ℕ → List (List ℕ)
+values_of rows reading =
+    map (λ (row : ValueRow). row.value) (filter (λ row. is_text reading row.reading) rows)
+
+-- a cost of a word or of a connection
+pub record IsCost (cost : ℤ) : Type 0 where
+  pub above : LEAST_COST ≤ℤ cost
+  pub below : cost ≤ℤ MOST_COST
+
+-- a word row has a reading and a value, ids that there are, and a cost
+pub record IsWordSound (ids : ℕ) (row : WordRow) : Type 0 where
+  pub read : 0 < length row.reading
+  pub left : row.lid < ids
+  pub right : row.rid < ids
+  pub cost : IsCost row.cost
+  pub valued : 0 < length row.value
+
+-- an id that there is, and a cost
+pub record IsNode (ids : ℕ) (node : ℕ × ℤ) : Type 0 where
+  pub id : node.0 < ids
+  pub cost : IsCost node.1
+
+-- the data are within their limits
+pub record AreDataSound (d : DataLists) : Type 0 where
+  pub some_ids : 0 < d.ids
+  pub few_ids : d.ids ≤ MOST_IDS
+  pub few_words : length d.words ≤ MOST_WORDS
+  pub connections : (r l : ℕ) → r < d.ids → l < d.ids → IsCost (connection d r l)
+  pub classes : (class : Class) → IsNode d.ids (unknown_of d class)
+  pub parts : (name : List ℕ) → IfSome (pos_of d name) (IsNode d.ids)
+  pub words : (i : ℕ) → i < length d.words → IsWordSound d.ids (word_at d i)
+  pub rules_sound : AreRules d.rules
