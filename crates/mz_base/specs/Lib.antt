@@ -4,6 +4,7 @@ pub mod Data
 pub mod Faults
 pub mod FileLines
 pub mod Kana
+pub mod Latest
 pub mod Lines
 pub mod Numbers
 pub mod Reports
