@@ -1,1 +1,2 @@
 pub mod CostSteps
+pub mod TableLemmas

@@ -1,13 +1,16 @@
 -- The costs of connections and the file that has them: docs/FORMATS.md, "Connection costs".
-use Rattle.std.specs.Prelude.{◌≡◌, ℕ, ◌+◌, ◌*◌, ◌≤◌, ℤ, pos, Bool, ◌&&◌, ◌==◌, List, [], ◌∷◌, Option, Some, None, Result, Ok, Err, if◌then◌else◌, length, nat_le, int_le, slice_index_or}
+use Rattle.std.specs.Prelude.{◌≡◌, ℕ, ◌+◌, ◌-◌, ◌*◌, ◌<◌, ◌≤◌, ℤ, pos, Bool, ◌&&◌, ◌==◌, List, [], ◌∷◌, Option, Some, None, Result, Ok, Err, if◌then◌else◌, length, nat_le, slice_index_or}
 use Rattle.std.specs.List.{list_all}
 use Rattle.std.specs.Str.{is_utf8}
 use Rattle.mz_base.specs.Answers.{◌>>=◌}
+use Rattle.mz_base.specs.Data.{IsCost}
+use Rattle.mz_base.specs.Limits.{is_cost}
 use Rattle.mz_base.specs.Numbers.{number_of, signed_of}
 use Rattle.mz_base.specs.Rows.{rows_after}
 use Rattle.mz_base.specs.declared.fault.FaultKind.{FaultKind}
 use Rattle.mz_base.specs.declared.fault.FaultKind.TheVariants.{NotUtf8, Number, Range, Size, Count}
-use Rattle.conn_matrix.specs.declared.reader.TheConstants.{MOST_IDS, MOST_COST, LEAST_COST, FIRST_COST_LINE}
+use Rattle.mz_base.specs.declared.data.TheConstants.{MOST_IDS}
+use Rattle.conn_matrix.specs.declared.reader.TheConstants.{FIRST_COST_LINE}
 
 -- the number of ids, and the costs by right id and then by left id
 pub record CostTable : Type 0 where
@@ -25,9 +28,6 @@ cost_at table r l = slice_index_or table.costs (r * table.size + l) (pos 0)
 
 abbrev pub is_size : ℕ → Bool
 is_size size = nat_le 1 size && nat_le size MOST_IDS
-
-abbrev pub is_cost : ℤ → Bool
-is_cost cost = int_le LEAST_COST cost && int_le cost MOST_COST
 
 abbrev pub size_from : Option ℕ → Result ℕ FaultKind
 size_from None = Err Size
@@ -69,3 +69,18 @@ squared size costs =
 unfoldable pub table_in : List (List ℕ) → Result CostTable FaultKind
 table_in [] = Err Size
 table_in (first ∷ lines) = size_on first >>= (λ size. costs_in lines >>= (λ costs. squared size costs))
+
+-- a table of at least one id, each cost within its limits
+pub record IsTable (table : CostTable) : Type 0 where
+  pub some : 0 < table.size
+  pub square : IsSquare table.size table.costs
+  pub small : (r l : ℕ) → r < table.size → l < table.size → IsCost (cost_at table r l)
+
+-- the number of the line on which the cost of a pair stands
+abbrev pub line_of_pair : CostTable → ℕ → ℕ → ℕ
+line_of_pair table r l = FIRST_COST_LINE + (r * table.size + l)
+
+-- each pair's cost is the one on its line
+abbrev pub StandOnTheirLines : List (List ℕ) → CostTable → Type 0
+StandOnTheirLines lines table =
+    (r l : ℕ) → r < table.size → l < table.size → cost_on (line_of_pair table r l) (slice_index_or lines (line_of_pair table r l - 1) []) ≡ Ok (cost_at table r l)

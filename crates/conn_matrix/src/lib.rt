@@ -2,8 +2,9 @@
 //! What a file gives: specs/Costs.antt, and docs/FORMATS.md.
 #![tactic(auto)]
 
+mod laws;
 mod matrix;
 mod reader;
 
+pub use laws::{costs_stand_on_their_lines, tables_are_sound};
 pub use matrix::Matrix;
-pub use reader::{LEAST_COST, MOST_COST, MOST_IDS};

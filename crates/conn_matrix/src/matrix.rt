@@ -2,10 +2,10 @@ ghost use Rattle.std.specs.Prelude.{◌≡◌, ◌<◌, ◌≤◌, ◌∷◌};
 ghost use Rattle.mz_base.specs.Answers.{Gives};
 ghost use Rattle.mz_base.specs.FileLines.{lines_left};
 ghost use Rattle.mz_base.specs.Lines.{lines_of};
-ghost use Rattle.conn_matrix.specs.Costs.{cost_at, table_in, squared};
+ghost use Rattle.conn_matrix.specs.Costs.{IsSquare, cost_at, table_in, squared};
 
-use crate::reader::{MOST_IDS, read_costs, read_size};
-use mz_base::{FaultKind, FileLines, ReadError};
+use crate::reader::{read_costs, read_size};
+use mz_base::{FaultKind, FileLines, MOST_IDS, ReadError};
 use std::alloc::Global;
 use std::marker::Model;
 
@@ -36,6 +36,14 @@ impl Matrix {
             Some(first) => read_table(alloc, first, lines),
             None => Err(FaultKind::Size.into()),
         }
+    }
+
+    /// The matrix of these costs, by right id and then by left id.
+    pub fn from_rows(size: u32, costs: Vec<i32>) -> Matrix
+        requires { IsSquare size costs.items }
+        ensures { result ≡ record { size = size; costs = costs.items } }
+    {
+        Matrix { size, costs }
     }
 
     /// The number of ids.

@@ -1,17 +1,12 @@
 ghost use Rattle.std.specs.Prelude.{◌≡◌, ◌≤◌, IfOk};
 ghost use Rattle.mz_base.specs.Answers.{Gives};
 ghost use Rattle.mz_base.specs.FileLines.{lines_left};
-ghost use Rattle.conn_matrix.specs.Costs.{size_on, cost_on, is_cost, is_size, costs_in};
+ghost use Rattle.conn_matrix.specs.Costs.{size_on, cost_on, is_size, costs_in};
 
-use mz_base::{FaultKind, FileLines, MOST_DIGITS, ReadError, number, signed, text_of_line};
+use mz_base::{
+    FaultKind, FileLines, MOST_DIGITS, MOST_IDS, ReadError, is_cost, number, signed, text_of_line,
+};
 use std::alloc::Global;
-
-/// The most ids of a matrix.
-pub const MOST_IDS: u32 = 4096;
-/// The greatest cost.
-pub const MOST_COST: i32 = 1_000_000;
-/// The least cost.
-pub const LEAST_COST: i32 = -1_000_000;
 
 /// The line on which the first cost stands.
 pub const FIRST_COST_LINE: u64 = 2;
@@ -66,10 +61,4 @@ fn read_cost(number: u64, line: &[u8]) -> Result<i32, ReadError>
         Some(cost) if is_cost(cost) => Ok(cost as i32),
         Some(_) => Err(FaultKind::Range(number).into()),
     }
-}
-
-fn is_cost(cost: i64) -> bool
-    ensures { result ≡ is_cost cost }
-{
-    LEAST_COST as i64 <= cost && cost <= MOST_COST as i64
 }

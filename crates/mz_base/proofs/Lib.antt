@@ -1,3 +1,4 @@
 pub mod AnswerLemmas
+pub mod LimitLemmas
 pub mod NumberLemmas
 pub mod RowSteps

@@ -5,6 +5,7 @@ pub mod Faults
 pub mod FileLines
 pub mod Kana
 pub mod Latest
+pub mod Limits
 pub mod Lines
 pub mod Numbers
 pub mod Reports

@@ -8,6 +8,7 @@ mod data;
 mod event;
 mod fault;
 mod lattice;
+mod limits;
 mod lines;
 mod memory;
 mod numbers;
@@ -28,6 +29,7 @@ pub use data::{
 pub use event::{Event, Outcome};
 pub use fault::{Fault, FaultKind, ReadError, Role};
 pub use lattice::{Candidate, Certificate, Entry, Lattice, MOST_KEY, Pair, Source, Span};
+pub use limits::{is_cost, is_long};
 pub use lines::{FileLines, cut_fields, cut_lines, text_of_line};
 pub use memory::NoMemory;
 pub use numbers::{MOST_DIGITS, number, signed};
