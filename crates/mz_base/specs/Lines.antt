@@ -43,3 +43,8 @@ pointed parts = map (λ part. part.now) parts
 abbrev pub parts_left : Option (Bor (List ℕ)) → List (List ℕ)
 parts_left None = []
 parts_left (Some text) = slice_split (λ b. b == 10) text.now
+
+-- the fields of a text, where there is a text
+abbrev pub fields_left : Option (Bor (List ℕ)) → List (List ℕ)
+fields_left None = []
+fields_left (Some text) = fields_of text.now

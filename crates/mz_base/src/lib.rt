@@ -7,6 +7,7 @@ mod class;
 mod data;
 mod event;
 mod fault;
+mod fields;
 mod lattice;
 mod limits;
 mod lines;
@@ -28,6 +29,7 @@ pub use data::{
 };
 pub use event::{Event, Outcome};
 pub use fault::{Fault, FaultKind, ReadError, Role};
+pub use fields::cut_field;
 pub use lattice::{Candidate, Certificate, Entry, Lattice, MOST_KEY, Pair, Source, Span};
 pub use limits::{is_cost, is_long};
 pub use lines::{FileLines, cut_fields, cut_lines, text_of_line};
