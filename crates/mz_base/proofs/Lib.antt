@@ -1,4 +1,6 @@
+pub mod AnswerLemmas
 pub mod Found
+pub mod LimitLemmas
 pub mod NumberLemmas
 pub mod RowFacts
 pub mod RowSteps

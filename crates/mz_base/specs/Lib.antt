@@ -2,8 +2,10 @@ pub mod Answers
 pub mod Classes
 pub mod Data
 pub mod Faults
+pub mod FileLines
 pub mod Kana
 pub mod Latest
+pub mod Limits
 pub mod Lines
 pub mod Numbers
 pub mod Reports

@@ -38,3 +38,13 @@ fields_of line = slice_split (λ b. b == 9) line
 -- what the references of a list point to
 abbrev pub pointed : List (Bor (List ℕ)) → List (List ℕ)
 pointed parts = map (λ part. part.now) parts
+
+-- the parts of a text between line feeds, where there is a text
+abbrev pub parts_left : Option (Bor (List ℕ)) → List (List ℕ)
+parts_left None = []
+parts_left (Some text) = slice_split (λ b. b == 10) text.now
+
+-- the fields of a text, where there is a text
+abbrev pub fields_left : Option (Bor (List ℕ)) → List (List ℕ)
+fields_left None = []
+fields_left (Some text) = fields_of text.now

@@ -1,8 +1,8 @@
-ghost use Rattle.std.specs.Prelude.{◌≡◌, ◌==◌, IfOk};
+ghost use Rattle.std.specs.Prelude.{◌≡◌, ◌==◌, ◌∷◌, IfOk, position};
 ghost use Rattle.std.specs.List.{slice_split};
 ghost use Rattle.std.specs.Option.{option_copied};
 ghost use Rattle.std.specs.Str.Lines.{strip_carriage_return};
-ghost use Rattle.mz_base.specs.Lines.{without_mark, without_last_feed, lines_in, lines_of, text_line, fields_of, pointed};
+ghost use Rattle.mz_base.specs.Lines.{without_mark, without_last_feed, lines_in, lines_of, text_line, fields_of, pointed, parts_left};
 
 use crate::NoMemory;
 use std::alloc::Global;
@@ -72,4 +72,59 @@ pub fn cut_fields(alloc: Global, line: &str) -> Result<Vec<&str>, NoMemory>
     ensures { IfOk result (λ fields. pointed fields.items ≡ fields_of line.now) }
 {
     Ok(line.split('\t').collect(alloc)?)
+}
+
+/// The lines of a file one after the other. No byte is copied, and no list of them is made.
+#[derive(Drop)]
+pub struct FileLines<'a> {
+    left: Option<&'a [u8]>,
+}
+
+impl<'a> FileLines<'a> {
+    ghost use Rattle.mz_base.specs.FileLines.{lines_left};
+
+    pub fn of(bytes: &'a [u8]) -> FileLines<'a>
+        ensures { lines_left result ≡ lines_of bytes.now }
+    {
+        let text = skip_mark(bytes);
+        if text.is_empty() {
+            return FileLines { left: None };
+        }
+        FileLines {
+            left: Some(drop_last_feed(text)),
+        }
+    }
+}
+
+impl<'a> Iterator for FileLines<'a> {
+    ghost use Rattle.std.specs.Iterator.{YieldsFirstRef, item_count};
+    ghost use Rattle.mz_base.specs.FileLines.{lines_left};
+
+    type Item = &'a [u8];
+
+    ghost next_gives = { YieldsFirstRef lines_left };
+
+    ghost remaining = { item_count lines_left };
+
+    fn next(&mut self) -> Option<&'a [u8]> {
+        let (part, left) = cut_part(self.left?);
+        self.left = left;
+        Some(drop_return(part))
+    }
+}
+
+/// The text before the first line feed, and the text after it.
+fn cut_part(text: &[u8]) -> (&[u8], Option<&[u8]>)
+    ensures { slice_split (λ b. b == 10) text.now ≡ result.0.now ∷ parts_left result.1 }
+{
+    match first_feed(text) {
+        Some(end) => (&text[..end], Some(&text[end + 1..])),
+        None => (text, None),
+    }
+}
+
+fn first_feed(text: &[u8]) -> Option<usize>
+    ensures { result ≡ position (λ b. b == 10) text.now }
+{
+    text.iter().position(|b| *b == b'\n')
 }

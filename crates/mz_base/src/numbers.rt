@@ -1,7 +1,7 @@
-ghost use Rattle.std.specs.Prelude.{◌≡◌, ◌≤◌, ◌<◌, ◌^◌, IfSome};
+ghost use Rattle.std.specs.Prelude.{◌≡◌, ◌≤◌, ◌<◌, ◌^◌, ◌==◌, true, false, IfSome, MatchOption, drop, slice_index};
 ghost use Rattle.std.specs.Char.{is_ascii_digit};
 ghost use Rattle.std.specs.List.{list_all};
-ghost use Rattle.mz_base.specs.Numbers.{is_numeral, number_of, unsigned_of};
+ghost use Rattle.mz_base.specs.Numbers.{is_numeral, number_of, unsigned_of, signed_of, negated, positive};
 
 /// The most digits of a number that is no potential and no total of a certificate.
 pub const MOST_DIGITS: usize = 10;
@@ -11,6 +11,43 @@ pub fn number(text: &str) -> Option<u64>
     ensures { result ≡ number_of text.now }
 {
     unsigned(text, MOST_DIGITS)
+}
+
+/// The number that decimal digits write, at most so many, where one minus may stand first.
+pub fn signed(text: &str, most: usize) -> Option<i64>
+    requires { most ≤ 18 }
+    ensures { result ≡ signed_of most text.now }
+{
+    match after_minus(text) {
+        Some(digits) => negated(unsigned(digits, most)),
+        None => positive(unsigned(text, most)),
+    }
+}
+
+fn after_minus(text: &str) -> Option<&str>
+    ensures { MatchOption result ((slice_index text.now 0 == 45) ≡ false) (λ digits. ((slice_index text.now 0 == 45) ≡ true) × (digits.now ≡ drop 1 text.now)) }
+{
+    text.strip_prefix('-')
+}
+
+fn negated(number: Option<u64>) -> Option<i64>
+    requires { IfSome number (λ n. n < 10 ^ 18) }
+    ensures { result ≡ negated number }
+{
+    match number {
+        Some(n) => Some(-(n as i64)),
+        None => None,
+    }
+}
+
+fn positive(number: Option<u64>) -> Option<i64>
+    requires { IfSome number (λ n. n < 10 ^ 18) }
+    ensures { result ≡ positive number }
+{
+    match number {
+        Some(n) => Some(n as i64),
+        None => None,
+    }
 }
 
 fn unsigned(text: &str, most: usize) -> Option<u64>

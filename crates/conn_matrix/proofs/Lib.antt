@@ -1,0 +1,2 @@
+pub mod CostSteps
+pub mod TableLemmas

@@ -1,0 +1,10 @@
+//! Connection costs: a number for each pair of neighbours, by their ids. Start at [`Matrix`].
+//! What a file gives: specs/Costs.antt, and docs/FORMATS.md.
+#![tactic(auto)]
+
+mod laws;
+mod matrix;
+mod reader;
+
+pub use laws::{costs_stand_on_their_lines, tables_are_sound};
+pub use matrix::Matrix;

@@ -1,0 +1,4 @@
+pub mod Columns
+pub mod Reader
+pub mod Rows
+pub mod Tally

@@ -1,0 +1,9 @@
+//! Rows of dictionary files. Start at [`read`].
+//! What a line gives: specs/Rows.antt, and docs/FORMATS.md.
+#![tactic(auto)]
+
+mod columns;
+mod reader;
+mod tally;
+
+pub use reader::read;
