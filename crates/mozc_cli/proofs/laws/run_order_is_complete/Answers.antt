@@ -1,0 +1,13 @@
+use Rattle.std.proofs.Common.{refl}
+use Rattle.mozc_cli.proofs.Runs.{final, play-run_order}
+use Rattle.mozc_cli.proofs.laws.run_order_is_complete.Goals as goal
+
+pub returns : goal.returns
+unfolding final
+returns c world =
+    (
+      final world,
+      play-run_order world,
+      record { published = ?; carried_out = refl; ended = ?; closed = ? },
+      refl,
+    )
