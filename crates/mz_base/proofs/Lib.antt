@@ -1,3 +1,4 @@
 pub mod Found
 pub mod RowSteps
 pub mod Turns
+pub mod Waiting

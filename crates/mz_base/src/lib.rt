@@ -13,7 +13,7 @@ mod seq;
 mod text;
 
 pub use fault::{Fault, FaultKind, ReadError, Role};
-pub use laws::{finish_goes_on, kana_goes_on, kana_waits, longest_is_longest};
+pub use laws::{finish_goes_on, kana_goes_on, kana_grows, kana_waits, longest_is_longest};
 pub use line::{cut_fields, cut_lines, text_of_line};
 pub use memory::NoMemory;
 pub use romaji::{Romaji, Rule, RuleView};
