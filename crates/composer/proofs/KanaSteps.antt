@@ -4,6 +4,7 @@ use Rattle.mz_base.specs.Kana.{AreRules, Shows, Shown, after_output, finish, kan
 use Rattle.mz_base.specs.declared.romaji.Rule.{Rule}
 use Rattle.mz_base.specs.declared.romaji.RuleView.{RuleView}
 use Rattle.mz_base.proofs.Turns.{FitsRule, longest-FitsRule, fits-length, kana-waits, kana-goes_on, finish-goes_on}
+use Rattle.mz_base.proofs.Waiting.{after_output-after_output}
 
 -- the rule that a look-up lends is no longer than the text, and leaves less pending than it takes
 module _ (rules : List Rule) (text : List ℕ) (view : RuleView) (sound : AreRules rules) (shows : Shows (Some view) (longest rules text)) where
@@ -15,11 +16,6 @@ module _ (rules : List Rule) (text : List ℕ) (view : RuleView) (sound : AreRul
 
   pub view-shorter : length view.pending.now < view.length
   view-shorter = omega (arith, shows.2.length_is, ap length shows.2.pending_is, found-fits.is_rule.shorter)
-
--- an output before an output
-after_output-after_output : (a b : List ℕ) (shown : Shown) → after_output (a ++ b) shown ≡ after_output a (after_output b shown)
-after_output-after_output a b shown =
-    ap (λ output. let s : Shown = record { output = output; pending = shown.pending } in s) (append_assoc a b shown.output)
 
 -- a turn makes more of the same kana
 pub kana-step : (rules : List Rule) (before now whole : Shown) → AreRules rules → waits rules before.pending ≡ false → now ≡ after_output before.output (turn (longest rules before.pending) before.pending) → after_output before.output (kana rules before.pending) ≡ whole → after_output now.output (kana rules now.pending) ≡ whole

@@ -1,2 +1,2 @@
+mod Backspaces
 mod KanaSteps
-mod Waiting

@@ -5,3 +5,4 @@ pub mod NumberLemmas
 pub mod RowFacts
 pub mod RowSteps
 pub mod Turns
+pub mod Waiting

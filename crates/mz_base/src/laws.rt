@@ -19,6 +19,14 @@ pub fn kana_goes_on()
         kana rules text ≡ after_output step.output (kana rules step.pending) }
 {}
 
+/// What is pending waits, and what is typed after a text changes none of its kana: only what is pending goes on with it.
+pub fn kana_grows()
+    ensures waits { (rules : List Rule) (text : List ℕ) → AreRules rules → IsTrue (waits rules (kana rules text).pending) }
+    ensures grows { (rules : List Rule) (text more : List ℕ) → AreRules rules →
+        let shown = kana rules text in
+        kana rules (text ++ more) ≡ after_output shown.output (kana rules (shown.pending ++ more)) }
+{}
+
 /// Of no text the finished text is empty; any other gives a turn's output, and then the finished text of what the
 /// turn leaves.
 pub fn finish_goes_on()

@@ -33,7 +33,7 @@ pub use event::{Event, Outcome};
 pub use fault::{Fault, FaultKind, ReadError, Role};
 pub use fields::cut_field;
 pub use lattice::{Candidate, Certificate, Entry, Lattice, MOST_KEY, Pair, Source, Span};
-pub use laws::{finish_goes_on, kana_goes_on, kana_waits, longest_is_longest};
+pub use laws::{finish_goes_on, kana_goes_on, kana_grows, kana_waits, longest_is_longest};
 pub use limits::{is_cost, is_long};
 pub use lines::{FileLines, cut_fields, cut_lines, text_of_line};
 pub use memory::NoMemory;
