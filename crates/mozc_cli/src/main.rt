@@ -10,33 +10,60 @@ mod refusal;
 mod script;
 mod serving;
 mod session;
-#[cfg(test)]
-mod tests;
 mod world;
 
 pub use laws::run_order_is_complete;
 pub use local::local;
-
 use mz_base::Status;
 use mz_outside::{FileStore, OutSink};
-use std::alloc::Global;
 use std::process::ExitCode;
 use std::{env, io};
 
-const HELP: &str = "mozc_cli run MANIFEST    run the manifest's client and write the report";
+const HELP: &str = "mozc_cli run MANIFEST
+Runs the client of the manifest and writes the report on standard output.";
 
 const VERSION: &str = "mozc_cli 0.1.0";
 
 fn main(rt: HostRuntime) -> ExitCode {
-    let alloc = rt.alloc();
     match words_of(&rt) {
-        Ok(words) => answer(&rt, alloc, words.as_slice()),
+        Ok(words) => answered(&rt, words.as_slice()),
         Err(_) => ended(&rt, &Status::Usage),
     }
 }
 
 /// The words after the program's name.
-fn words_of<R: env::Env + Alloc>(rt: &R) -> io::Result<Vec<String>> {
+fn words_of(rt: &(impl env::Env + AllocGlobal)) -> io::Result<Vec<String>> {
     let mut words = Vec::new(rt.alloc());
+    for word in env::args(rt)?.skip(1) {
+        words.push(word)?;
+    }
     Ok(words)
+}
+
+/// The two words that need no file, and else the command.
+fn answered(rt: &(impl Files + Print + Eprint + AllocGlobal), words: &[String]) -> ExitCode {
+    match words {
+        [word] if word.as_str() == "--help" => told(rt, HELP),
+        [word] if word.as_str() == "--version" => told(rt, VERSION),
+        _ => {
+            let mut store = FileStore::new(rt, rt.alloc());
+            let mut sink = OutSink::new(io::writer(rt));
+            ended(rt, &local(rt.alloc(), words, &mut store, &mut sink))
+        }
+    }
+}
+
+fn told(rt: &(impl Print + Eprint), text: &str) -> ExitCode {
+    match rt.println(text) {
+        Ok(()) => ended(rt, &Status::Ok),
+        Err(_) => ended(rt, &Status::WriteFault),
+    }
+}
+
+/// Writes the status's text, unless all went well, and ends with its number.
+fn ended(rt: &impl Eprint, status: &Status) -> ExitCode {
+    if status.number() != 0 {
+        let _ = eprintln!(rt; "{status}");
+    }
+    ExitCode::from(status.number())
 }

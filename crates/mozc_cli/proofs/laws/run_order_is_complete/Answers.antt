@@ -4,10 +4,9 @@ use Rattle.mozc_cli.proofs.laws.run_order_is_complete.Goals as goal
 
 pub returns : goal.returns
 unfolding final
-returns c world =
-    (
-      final world,
-      play-run_order world,
-      record { published = ?; carried_out = refl; ended = ?; closed = ? },
-      refl,
-    )
+returns c world = (
+  final world,
+  play-run_order world,
+  record { published = refl; carried_out = refl; ended = refl; closed = refl },
+  refl,
+)
