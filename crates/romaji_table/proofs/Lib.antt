@@ -1,3 +1,4 @@
+pub mod Fronts
 pub mod InputOrder
 pub mod LatestRules
 pub mod LatestSteps
