@@ -11,3 +11,6 @@ mod table;
 pub use reader::read;
 pub use row::{MOST_FIELD_BYTES, MOST_ROWS, RuleReader};
 pub use table::Table;
+
+#[cfg(test)]
+mod tests;
