@@ -1,4 +1,6 @@
+pub mod Fronts
 pub mod InputOrder
 pub mod LatestRules
 pub mod LatestSteps
 pub mod LongestRule
+pub mod RepeatedRows

@@ -1,8 +1,9 @@
-ghost use Rattle.std.specs.Prelude.{◌≡◌, IfOk};
+ghost use Rattle.std.specs.Prelude.{◌≡◌, IfOk, ◌&&◌, length, nat_eq, nat_lt};
+ghost use Rattle.std.specs.List.{starts_with};
 ghost use Rattle.std.specs.Option.{option_copied};
 ghost use Rattle.std.specs.Cmp.Lexicographic.{slice_cmp};
 ghost use Rattle.std.specs.Ordering.{nat_cmp};
-ghost use Rattle.mz_base.specs.Kana.{AreRules, longest};
+ghost use Rattle.mz_base.specs.Kana.{is_open, longest};
 ghost use Rattle.romaji_table.specs.Index.{AreWithin, Finds, IsIndex, IsTable, input_at, comes_before};
 
 use mz_base::{NoMemory, Rule};
@@ -59,6 +60,25 @@ fn find<'a>(rules: &'a [Rule], places: &[usize], input: &[char]) -> Option<&'a R
         Ok(index) => rules.get(places[index]),
         Err(_) => None,
     }
+}
+
+/// Whether the text is a proper prefix of a rule's input.
+pub fn is_open(rules: &[Rule], places: &[usize], text: &[char]) -> bool
+    requires { IsIndex rules.now places.now }
+    ensures { result ≡ is_open rules.now text.now }
+{
+    // The inputs that begin with the text come right after it.
+    let after = places.partition_point(|place| input_at(rules, *place).cmp(text).is_le());
+    match places.get(after) {
+        Some(place) => opens(text, input_at(rules, *place)),
+        None => false,
+    }
+}
+
+fn opens(text: &[char], input: &[char]) -> bool
+    ensures { result ≡ (starts_with nat_eq input.now text.now && nat_lt (length text.now) (length input.now)) }
+{
+    input.starts_with(text) && text.len() < input.len()
 }
 
 fn input_at(rules: &[Rule], place: usize) -> &[char]

@@ -3,11 +3,16 @@
 #![tactic(auto)]
 
 mod index;
+mod law;
 mod reader;
 mod repeats;
 mod row;
 mod table;
 
+pub use law::law_of_repeats;
 pub use reader::read;
 pub use row::{MOST_FIELD_BYTES, MOST_ROWS, RuleReader};
 pub use table::Table;
+
+#[cfg(test)]
+mod tests;

@@ -1,7 +1,7 @@
 ghost use Rattle.std.specs.Prelude.{◌≡◌, IfOk};
-ghost use Rattle.mz_base.specs.Kana.{AreRules, IsView, opens};
+ghost use Rattle.mz_base.specs.Kana.{AreRules, IsView};
 
-use crate::index::{longest_of, most_typed, places_by_input};
+use crate::index::{is_open, longest_of, most_typed, places_by_input};
 use mz_base::{NoMemory, Romaji, Rule, RuleView};
 use std::alloc::Global;
 use std::marker::Model;
@@ -66,7 +66,7 @@ impl Romaji for Table {
     }
 
     fn is_open(&self, text: &[char]) -> bool {
-        self.rules.iter().any(|rule| opens(text, rule))
+        is_open(self.rules.as_slice(), self.places.as_slice(), text)
     }
 }
 
@@ -78,10 +78,4 @@ fn view_of(rule: &Rule) -> RuleView<'_>
         output: rule.output.as_chars(),
         pending: rule.pending.as_chars(),
     }
-}
-
-fn opens(text: &[char], rule: &Rule) -> bool
-    ensures { result ≡ opens text.now rule.now }
-{
-    rule.input.as_chars().starts_with(text) && text.len() < rule.input.as_chars().len()
 }

@@ -1,0 +1,11 @@
+use Rattle.romaji_table.proofs.LatestRules.{latest-AreDistinct}
+use Rattle.romaji_table.proofs.RepeatedRows.{latest-Contains, latest-last}
+use Rattle.romaji_table.specs.Repeats.{same_input}
+use Rattle.romaji_table.proofs.law.law_of_repeats.Goals as goal
+
+pub returns : goal.returns
+returns c = record {
+  rows = latest-Contains same_input;
+  distinct = latest-AreDistinct;
+  last = latest-last same_input;
+}

@@ -1,0 +1,16 @@
+ghost use Rattle.std.specs.Prelude.{◌≡◌, List, ◌++◌, ◌∷◌, false};
+ghost use Rattle.std.specs.List.{All, Contains, list_any};
+ghost use Rattle.mz_base.specs.Kana.{AreDistinct};
+ghost use Rattle.mz_base.specs.Latest.{latest};
+ghost use Rattle.mz_base.specs.declared.romaji.Rule.{Rule};
+ghost use Rattle.romaji_table.specs.Repeats.{same_input};
+
+/// Of repeated inputs the last row holds.
+pub fn law_of_repeats()
+    // Each rule that is kept is a row, and no two have one input.
+    ensures rows { (rows : List Rule) → All (Contains rows) (latest same_input rows) }
+    ensures distinct { (rows : List Rule) → AreDistinct (latest same_input rows) }
+
+    // A row that no later row repeats is kept.
+    ensures last { (before after : List Rule) (row : Rule) → list_any (same_input row) after ≡ false → Contains (latest same_input (before ++ row ∷ after)) row }
+{}

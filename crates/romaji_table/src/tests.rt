@@ -1,0 +1,148 @@
+use super::*;
+use mz_base::{FaultKind, NoMemory, ReadError, Romaji, Text};
+use std::alloc::Global;
+
+/// The rows of a file, or its fault.
+fn count_rows(alloc: Global, bytes: &[u8]) -> Option<Result<usize, FaultKind>> {
+    match read(alloc, bytes) {
+        Ok(table) => Some(Ok(table.rows().len())),
+        Err(ReadError::Fault(kind)) => Some(Err(kind)),
+        Err(ReadError::NoMemory) => None,
+    }
+}
+
+#[test]
+fn reads_the_lines_of_a_file(rt: HostRuntime) {
+    let cases: [(&[u8], Result<usize, FaultKind>); 24] = [
+        (b"", Ok(0)),
+        (b"\xEF\xBB\xBFka\tx\r\nki\ty", Ok(2)),
+        (b"\n\r\na\tx\n\n", Ok(1)),
+        // A comment has no tab.
+        (b"# one\n#\n#\tx\n", Ok(1)),
+        (b"kk\tx\tk\na\tx\t\n", Ok(2)),
+        // Of repeated inputs the later row holds.
+        (b"a\tx\nb\ty\na\tz\n", Ok(2)),
+        (b"ka\tx\tka\n", Err(FaultKind::LongPending(1))),
+        // Two characters are not fewer than two, whatever their bytes.
+        ("ああ\tx\tkk\n".as_bytes(), Err(FaultKind::LongPending(1))),
+        ("kk\tx\tあ\n".as_bytes(), Ok(1)),
+        (b"a\tx\n\nb\n", Err(FaultKind::Fields(3))),
+        (b"a\tx\ty\tz\n", Err(FaultKind::Fields(1))),
+        (b"a\tx\ty\t\n", Err(FaultKind::Fields(1))),
+        (b"\tx\n", Err(FaultKind::Empty(1))),
+        (b"a\t\n", Ok(1)),
+        (b"a\tx\n\xFF\n", Err(FaultKind::NotUtf8(2))),
+        // A comment is tested first.
+        (b"# \xFF\n", Err(FaultKind::NotUtf8(1))),
+        // The first line with a fault counts, and on it the first fault of the order.
+        (b"a\n\xFF\n", Err(FaultKind::Fields(1))),
+        (b"\xFF\n", Err(FaultKind::NotUtf8(1))),
+        (b"\xFF\tx\ty\tz\n", Err(FaultKind::NotUtf8(1))),
+        (b"\t\t\tz\n", Err(FaultKind::Fields(1))),
+        (b"\tx\ty\n", Err(FaultKind::Empty(1))),
+        (b"a\tx\n\r\tx\n", Ok(2)),
+        (b"a\r\n", Err(FaultKind::Fields(1))),
+        (b"a b\tx\n", Ok(1)),
+    ];
+    for (index, (bytes, wanted)) in cases.into_iter().enumerate() {
+        assert_eq!(rt; count_rows(rt.alloc(), bytes), Some(wanted), "case {index}");
+    }
+}
+
+/// The start of a file, so many of a part, and the rest.
+fn many(
+    alloc: Global,
+    start: &[u8],
+    part: &[u8],
+    count: usize,
+    rest: &[u8],
+) -> Result<Vec<u8>, NoMemory> {
+    let mut bytes = Vec::from_slice(alloc, start)?;
+    for _ in 0..count {
+        bytes.extend_from_slice(part)?;
+    }
+    bytes.extend_from_slice(rest)?;
+    Ok(bytes)
+}
+
+#[test]
+fn keeps_its_limits(rt: HostRuntime) -> Result<(), NoMemory> {
+    let long = "あ".as_bytes();
+    let cases: [(&[u8], &[u8], usize, &[u8], Result<usize, FaultKind>); 11] = [
+        (b"", b"a", 300, b"\tx\n", Ok(1)),
+        (b"", b"a", 301, b"\tx\n", Err(FaultKind::Limit(1))),
+        (b"", long, 100, b"\tx\n", Ok(1)),
+        (b"", long, 101, b"\tx\n", Err(FaultKind::Limit(1))),
+        (b"a\t", b"x", 301, b"\n", Err(FaultKind::Limit(1))),
+        (b"a\tx\n", b"a\tx\n", 99_999, b"\n#\n", Ok(1)),
+        (
+            b"",
+            b"a\tx\n",
+            100_000,
+            b"b\tx\n",
+            Err(FaultKind::Limit(100_001)),
+        ),
+        // Each fault of the order hides the limit.
+        (b"\xFF", b"a", 301, b"\tx\n", Err(FaultKind::NotUtf8(1))),
+        (b"", b"a", 301, b"\n", Err(FaultKind::Fields(1))),
+        (b"\tx\t", b"a", 301, b"\n", Err(FaultKind::Empty(1))),
+        (b"a\tx\t", b"a", 301, b"\n", Err(FaultKind::LongPending(1))),
+    ];
+    for (index, (start, part, count, rest, wanted)) in cases.into_iter().enumerate() {
+        let bytes = many(rt.alloc(), start, part, count, rest)?;
+        assert_eq!(rt;
+            count_rows(rt.alloc(), bytes.as_slice()),
+            Some(wanted),
+            "case {index}"
+        );
+    }
+    Ok(())
+}
+
+#[test]
+fn finds_the_longest_rule(rt: HostRuntime) -> Result<(), NoMemory> {
+    let file = "a\tあ\nu\tう\nka\tか\nkyo\tきょ\nha\tは\nna\tな\nn\tん\nnn\tん\nkk\tっ\tk\n";
+    let cases = [
+        ("kyou", 3, "きょ", "", false),
+        ("kka", 2, "っ", "k", false),
+        ("nna", 2, "ん", "", false),
+        ("na", 2, "な", "", false),
+        ("n", 1, "ん", "", true),
+        ("a", 1, "あ", "", false),
+        ("x", 0, "", "", false),
+        ("k", 0, "", "", true),
+        ("ky", 0, "", "", true),
+        ("", 0, "", "", true),
+    ];
+    let Ok(table) = read(rt.alloc(), file.as_bytes()) else {
+        return Err(NoMemory);
+    };
+    for (typed, length, output, pending, is_open) in cases {
+        let text = Text::from_str(rt.alloc(), typed)?;
+        let output = Text::from_str(rt.alloc(), output)?;
+        let pending = Text::from_str(rt.alloc(), pending)?;
+        match table.longest(text.as_chars()) {
+            Some(rule) => {
+                assert_eq!(rt; rule.length, length, "at {typed}");
+                assert!(rt; rule.output == output.as_chars(), "at {typed}");
+                assert!(rt; rule.pending == pending.as_chars(), "at {typed}");
+            }
+            None => assert_eq!(rt; length, 0, "at {typed}"),
+        }
+        assert_eq!(rt; table.is_open(text.as_chars()), is_open, "at {typed}");
+    }
+    Ok(())
+}
+
+#[test]
+fn keeps_the_later_of_repeated_rows(rt: HostRuntime) -> Result<(), NoMemory> {
+    let Ok(table) = read(rt.alloc(), b"a\tx\nb\ty\na\tz\n") else {
+        return Err(NoMemory);
+    };
+    let mut inputs = String::new(rt.alloc());
+    for rule in table.rows() {
+        inputs.push_str(format!(in rt.alloc(); "{}{} ", rule.input, rule.output)?.as_str())?;
+    }
+    assert_eq!(rt; inputs.as_str(), "by az ");
+    Ok(())
+}
