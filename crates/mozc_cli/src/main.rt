@@ -17,6 +17,7 @@ pub use local::local;
 use mz_base::Status;
 use mz_outside::{FileStore, OutSink};
 use std::process::ExitCode;
+use std::rt::{Env, Files};
 use std::{env, io};
 
 const HELP: &str = "mozc_cli run MANIFEST
@@ -32,7 +33,7 @@ fn main(rt: HostRuntime) -> ExitCode {
 }
 
 /// The words after the program's name.
-fn words_of(rt: &(impl env::Env + AllocGlobal)) -> io::Result<Vec<String>> {
+fn words_of(rt: &(impl Env + AllocGlobal)) -> io::Result<Vec<String>> {
     let mut words = Vec::new(rt.alloc());
     for word in env::args(rt)?.skip(1) {
         words.push(word)?;
