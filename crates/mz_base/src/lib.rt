@@ -20,6 +20,8 @@ mod romaji;
 mod rows;
 mod seq;
 mod status;
+#[cfg(test)]
+mod tests;
 mod text;
 mod user;
 
