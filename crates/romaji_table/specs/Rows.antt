@@ -1,16 +1,17 @@
 -- The rows of a romaji table: docs/FORMATS.md, "Romaji".
-use Rattle.std.specs.Prelude.{ℕ, ◌==◌, ◌&&◌, ◌||◌, Bool, true, not, List, [], ◌∷◌, Option, Some, None, Result, Ok, Err, if◌then◌else◌, length, nat_lt, nat_le}
+use Rattle.std.specs.Prelude.{ℕ, ◌==◌, ◌&&◌, ◌||◌, Bool, true, not, List, [], ◌∷◌, Option, Some, None, Result, Ok, Err, if◌then◌else◌, length, nat_le}
 use Rattle.std.specs.List.{list_any}
 use Rattle.std.specs.Str.{chars, is_utf8}
 use Rattle.mz_base.specs.Answers.{◌>>=◌}
 use Rattle.mz_base.specs.Latest.{latest}
+use Rattle.mz_base.specs.Limits.{is_long}
 use Rattle.mz_base.specs.Lines.{lines_of, fields_of}
 use Rattle.mz_base.specs.Rows.{rows_after}
+use Rattle.mz_base.specs.declared.data.TheConstants.{MOST_ROWS}
 use Rattle.mz_base.specs.declared.romaji.Rule.{Rule}
 use Rattle.mz_base.specs.declared.fault.FaultKind.{FaultKind}
 use Rattle.mz_base.specs.declared.fault.FaultKind.TheVariants.{NotUtf8, Fields, Empty, LongPending, Limit}
 use Rattle.romaji_table.specs.Repeats.{same_input}
-use Rattle.romaji_table.specs.declared.row.TheConstants.{MOST_ROWS, MOST_FIELD_BYTES}
 
 -- an empty line, and a line that begins with # and has no tab, give no row
 abbrev pub is_skipped : List ℕ → Bool
@@ -32,10 +33,6 @@ row_fields _ = None
 -- the rule of a row
 abbrev pub rule_of : RowFields → Rule
 rule_of row = record { input = chars row.input; output = chars row.output; pending = chars row.pending }
-
--- a field is longer than a field may be
-abbrev pub is_long : List ℕ → Bool
-is_long field = nat_lt MOST_FIELD_BYTES (length field)
 
 -- the row after so many, or one of its fields, passes a limit
 abbrev pub passes_limit : ℕ → RowFields → Bool

@@ -11,7 +11,7 @@ mod table;
 
 pub use law::law_of_repeats;
 pub use reader::read;
-pub use row::{MOST_FIELD_BYTES, MOST_ROWS, RuleReader};
+pub use row::RuleReader;
 pub use table::Table;
 
 #[cfg(test)]

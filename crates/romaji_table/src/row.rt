@@ -2,16 +2,13 @@ ghost use Rattle.std.specs.Prelude.{◌≡◌, IfOk, option_map};
 ghost use Rattle.mz_base.specs.Answers.{Gives};
 ghost use Rattle.mz_base.specs.Lines.{pointed};
 ghost use Rattle.romaji_table.specs.Columns.{row_of_columns};
-ghost use Rattle.romaji_table.specs.Rows.{is_skipped, row_fields, rule_of, fields_row, passes_limit, is_long};
+ghost use Rattle.romaji_table.specs.Rows.{is_skipped, row_fields, rule_of, fields_row, passes_limit};
 
-use mz_base::{FaultKind, NoMemory, ReadError, RowReader, Rule, Text, cut_fields, text_of_line};
+use mz_base::{
+    FaultKind, MOST_ROWS, NoMemory, ReadError, RowReader, Rule, Text, cut_fields, is_long,
+    text_of_line,
+};
 use std::alloc::Global;
-
-/// The most rows that a romaji file may have, before repeats are resolved.
-pub const MOST_ROWS: usize = 100_000;
-
-/// The most bytes of UTF-8 that a field may have.
-pub const MOST_FIELD_BYTES: usize = 300;
 
 /// Reads the rules of a romaji file, line by line.
 #[derive(Drop)]
@@ -129,10 +126,4 @@ fn passes_limit(rows: usize, columns: Columns<'_>) -> bool
         || is_long(columns.input)
         || is_long(columns.output)
         || is_long(columns.pending)
-}
-
-fn is_long(field: &str) -> bool
-    ensures { result ≡ is_long field.now }
-{
-    MOST_FIELD_BYTES < field.len()
 }
