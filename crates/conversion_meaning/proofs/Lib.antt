@@ -8,5 +8,6 @@ pub mod LeastCosts
 pub mod Counts
 pub mod CostBounds
 pub mod LatticeLemmas
+pub mod Recurrence
 pub mod VerdictLemmas
 pub mod Tests

@@ -1,5 +1,5 @@
 -- The laws of what a conversion means.
-use Rattle.std.specs.Prelude.{◌≡◌, ◌≢◌, ℕ, ◌+◌, ◌-◌, ◌*◌, ◌<◌, ◌≤◌, ℤ, ◌≤ℤ◌, ◌⊎◌, List, length, slice_index}
+use Rattle.std.specs.Prelude.{◌≡◌, ◌≢◌, ℕ, ◌+◌, ◌-◌, ◌*◌, ◌<◌, ◌≤◌, ℤ, ◌≤ℤ◌, ◌⊎◌, List, [], ◌∷◌, ◌++◌, length, slice_index}
 use Rattle.std.specs.List.{range_with_len}
 use Rattle.mz_base.specs.Data.{DataLists, AreDataSound}
 use Rattle.mz_base.specs.declared.lattice.Entry.{Entry}
@@ -16,6 +16,7 @@ use Rattle.conversion_meaning.specs.Lattices.{entry, IsKey, IsByEnd, IsCursor, I
 use Rattle.conversion_meaning.specs.Order.{IsBefore}
 use Rattle.conversion_meaning.specs.Paths.{IsPathOver, IsSpan, path_cost, whole}
 use Rattle.conversion_meaning.specs.Potentials.{IsLeastCost, AreLeastCosts, ordinals_in}
+use Rattle.conversion_meaning.specs.Steps.{IsBestLast}
 use Rattle.conversion_meaning.specs.Verdicts.{IsFault}
 
 -- of two different paths exactly one is before the other
@@ -95,3 +96,13 @@ CursorsAreFirst =
 abbrev pub EndsAreFound : Type 0
 EndsAreFound =
     (es : List Entry) (by_end : List ℕ) (position cursor o : ℕ) → IsByEnd es by_end → IsCursor es by_end position cursor → o < length es → (entry es o).end ≡ position → (k : ℕ) × (cursor ≤ k) × (k < length by_end) × (slice_index by_end k ≡ o)
+
+-- in a well-formed lattice the best path over a span is the best list before its best last entry, and then this entry
+abbrev pub BestGoesOn : Type 0
+BestGoesOn =
+    (d : DataLists) (l : Lattice) (span : Span) (before : List ℕ) (o : ℕ) → IsWellFormed d l → span.begin < span.end → IsBestLast d l.entries span before o → IsBest d l.entries span (before ++ o ∷ [])
+
+-- nothing is the best path from a position to itself
+abbrev pub NothingIsBest : Type 0
+NothingIsBest =
+    (d : DataLists) (l : Lattice) (span : Span) → IsWellFormed d l → span.begin ≡ span.end → IsBest d l.entries span []

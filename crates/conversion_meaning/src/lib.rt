@@ -10,7 +10,7 @@ mod examples;
 mod lattices;
 mod order;
 
-pub use best::{best_is_one, one_is_best};
+pub use best::{best_goes_on, best_is_one, nothing_is_best, one_is_best};
 pub use bounds::{entries_are_few, least_costs_are_small, path_costs_are_small};
 pub use certificates::{
     certificates_have_no_fault, fault_is_one, least_costs_certify, none_costs_less,
