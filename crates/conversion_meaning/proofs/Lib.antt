@@ -9,5 +9,6 @@ pub mod Counts
 pub mod CostBounds
 pub mod LatticeLemmas
 pub mod Recurrence
+pub mod AllPathsLemmas
 pub mod VerdictLemmas
 pub mod Tests

@@ -17,6 +17,7 @@ use Rattle.conversion_meaning.specs.Best.{IsBest}
 use Rattle.conversion_meaning.specs.Lattices.{IsWellFormed, entry}
 use Rattle.conversion_meaning.specs.Order.{IsBefore, IsLowerFromLast}
 use Rattle.conversion_meaning.specs.Paths.{IsPath, IsPathOver, path_cost}
+use Rattle.conversion_meaning.specs.Potentials.{IsLeastCost, cost_to}
 use Rattle.conversion_meaning.specs.Steps.{IsBestLast, IsNotAfter, cost_through, span_before}
 use Rattle.conversion_meaning.proofs.BestLemmas.{AreForward-from_well, IsBest-exists}
 use Rattle.conversion_meaning.proofs.Duality.{AreForward, IsPath-forward}
@@ -144,3 +145,8 @@ module _ (d : DataLists) (es : List Entry) (forward : AreForward es) (span : Spa
 pub IsBest-push : (d : DataLists) (l : Lattice) (span : Span) (before : List ℕ) (o : ℕ) → IsWellFormed d l → span.begin < span.end → IsBestLast d l.entries span before o → IsBest d l.entries span (before ++ o ∷ [])
 IsBest-push d l span before o well ahead last =
     IsBest-last d l.entries (AreForward-from_well d l well) span before o last ahead
+
+-- the best list before an entry gives the entry's least cost
+pub IsLeastCost-from_best : (d : DataLists) (es : List Entry) (span : Span) (before : List ℕ) (o : ℕ) → IsBest d es (span_before es span o) before → IsLeastCost d es span o (cost_to d es span before o)
+IsLeastCost-from_best d es span before o best =
+    record { reached = (before, best.joined, refl); least = λ p joined. (let low = IsBest-le d es (span_before es span o) before p best joined in omega (arith, ints, low)) }

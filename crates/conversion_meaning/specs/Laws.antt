@@ -1,5 +1,5 @@
 -- The laws of what a conversion means.
-use Rattle.std.specs.Prelude.{◌≡◌, ◌≢◌, ℕ, ◌+◌, ◌-◌, ◌*◌, ◌<◌, ◌≤◌, ℤ, ◌≤ℤ◌, ◌⊎◌, List, [], ◌∷◌, ◌++◌, length, slice_index}
+use Rattle.std.specs.Prelude.{◌≡◌, ◌≢◌, ℕ, ◌+◌, ◌-◌, ◌*◌, ◌<◌, ◌≤◌, ℤ, ◌≤ℤ◌, ◌⊎◌, List, [], ◌∷◌, ◌++◌, length, slice_index, All, AllPairs, Contains}
 use Rattle.std.specs.List.{range_with_len}
 use Rattle.mz_base.specs.Data.{DataLists, AreDataSound}
 use Rattle.mz_base.specs.declared.lattice.Entry.{Entry}
@@ -8,6 +8,7 @@ use Rattle.mz_base.specs.declared.lattice.Span.{Span}
 use Rattle.mz_base.specs.declared.status.CertFault.{CertFault}
 use Rattle.mz_base.specs.declared.user.TheConstants.{MOST_USER_ROWS}
 use Rattle.mz_base.specs.declared.user.UserRow.{UserRow}
+use Rattle.conversion_meaning.specs.AllPaths.{all_paths}
 use Rattle.conversion_meaning.specs.Best.{IsBest}
 use Rattle.conversion_meaning.specs.Bounds.{IsWithin, most_entries, most_step}
 use Rattle.conversion_meaning.specs.Certificates.{Claim, IsCertificate}
@@ -15,8 +16,8 @@ use Rattle.conversion_meaning.specs.Entries.{entries}
 use Rattle.conversion_meaning.specs.Lattices.{entry, IsKey, IsByEnd, IsCursor, IsLatticeOf, IsWellFormed}
 use Rattle.conversion_meaning.specs.Order.{IsBefore}
 use Rattle.conversion_meaning.specs.Paths.{IsPathOver, IsSpan, path_cost, whole}
-use Rattle.conversion_meaning.specs.Potentials.{IsLeastCost, AreLeastCosts, ordinals_in}
-use Rattle.conversion_meaning.specs.Steps.{IsBestLast}
+use Rattle.conversion_meaning.specs.Potentials.{IsLeastCost, AreLeastCosts, cost_to, ordinals_in}
+use Rattle.conversion_meaning.specs.Steps.{IsBestLast, span_before}
 use Rattle.conversion_meaning.specs.Verdicts.{IsFault}
 
 -- of two different paths exactly one is before the other
@@ -106,3 +107,21 @@ BestGoesOn =
 abbrev pub NothingIsBest : Type 0
 NothingIsBest =
     (d : DataLists) (l : Lattice) (span : Span) → IsWellFormed d l → span.begin ≡ span.end → IsBest d l.entries span []
+
+-- the best list before an entry gives the entry's least cost
+abbrev pub BestGivesLeastCost : Type 0
+BestGivesLeastCost =
+    (d : DataLists) (es : List Entry) (span : Span) (before : List ℕ) (o : ℕ) → IsBest d es (span_before es span o) before → IsLeastCost d es span o (cost_to d es span before o)
+
+-- in a well-formed lattice the list of all paths has each path over the span
+abbrev pub AllPathsAreListed : Type 0
+AllPathsAreListed =
+    (d : DataLists) (l : Lattice) (span : Span) (path : List ℕ) → IsWellFormed d l → IsPathOver l.entries span path → Contains (all_paths l.entries span) path
+
+-- and nothing else
+abbrev pub ListedAreAllPaths : Type 0
+ListedAreAllPaths = (es : List Entry) (span : Span) → All (IsPathOver es span) (all_paths es span)
+
+-- and each once
+abbrev pub AllPathsAreOnce : Type 0
+AllPathsAreOnce = (es : List Entry) (span : Span) → AllPairs (λ p q. p ≢ q) (all_paths es span)

@@ -1,4 +1,4 @@
-ghost use Rattle.conversion_meaning.specs.Laws.{BestGoesOn, BestIsOne, NothingIsBest, OneIsBest};
+ghost use Rattle.conversion_meaning.specs.Laws.{BestGivesLeastCost, BestGoesOn, BestIsOne, NothingIsBest, OneIsBest};
 
 /// In a well-formed lattice each span has a best path.
 pub fn one_is_best()
@@ -18,4 +18,9 @@ pub fn best_goes_on()
 /// Nothing is the best path from a position to itself.
 pub fn nothing_is_best()
     ensures { NothingIsBest }
+{}
+
+/// The best list before an entry gives the entry's least cost.
+pub fn best_gives_least_cost()
+    ensures { BestGivesLeastCost }
 {}
