@@ -7,7 +7,7 @@ use Rattle.mz_base.specs.Data.{DataLists, AreDataSound}
 use Rattle.mz_base.specs.declared.lattice.Entry.{Entry}
 use Rattle.mz_base.specs.declared.lattice.Lattice.{Lattice}
 use Rattle.mz_base.specs.declared.lattice.Span.{Span}
-use Rattle.conversion_meaning.specs.Bounds.{IsWithin, most_step}
+use Rattle.conversion_meaning.specs.Bounds.{IsWithin, most_path, most_step}
 use Rattle.conversion_meaning.specs.Lattices.{IsEntry, IsWellFormed, entry, no_entry}
 use Rattle.conversion_meaning.specs.Paths.{IsPath, IsPathOver, IsSpan, cost_between, path_cost}
 use Rattle.conversion_meaning.specs.Potentials.{IsLeastCost}
@@ -18,7 +18,7 @@ module _ (d : DataLists) (sound : AreDataSound d) (key bounds : List ℕ) (es : 
   forward = λ o inside. (are o no_entry inside).forward
 
   -- Each entry takes a character at least, so a path costs no more than a step a character, and the last connection.
-  pub IsWithin-cost_between : (left right n from to : ℕ) (path : List ℕ) → left < d.ids → right < d.ids → IsPath es from to path → from + n ≡ to → IsWithin (most_step * n + 1000000) (cost_between d es left right path)
+  pub IsWithin-cost_between : (left right n from to : ℕ) (path : List ℕ) → left < d.ids → right < d.ids → IsPath es from to path → from + n ≡ to → IsWithin (most_path n) (cost_between d es left right path)
   IsWithin-cost_between left right n from to [] left_is right_is joined sum =
       let c = sound.connections left right left_is right_is in
       let low = c.above in
@@ -40,7 +40,7 @@ module _ (d : DataLists) (sound : AreDataSound d) (key bounds : List ℕ) (es : 
       let rest_low = rest.above in
       record { above = omega (arith, ints, first_low, own_low, rest_low, ahead, begins); below = omega (arith, ints, first_high, own_high, rest_high, ahead, begins) }
 
-pub IsWithin-path_cost : (d : DataLists) (l : Lattice) (span : Span) (path : List ℕ) → AreDataSound d → IsWellFormed d l → IsSpan d l span → IsPathOver l.entries span path → IsWithin (most_step * (span.end - span.begin) + 1000000) (path_cost d l.entries span path)
+pub IsWithin-path_cost : (d : DataLists) (l : Lattice) (span : Span) (path : List ℕ) → AreDataSound d → IsWellFormed d l → IsSpan d l span → IsPathOver l.entries span path → IsWithin (most_path (span.end - span.begin)) (path_cost d l.entries span path)
 IsWithin-path_cost d l span path sound well is joined =
     IsWithin-cost_between d sound l.key l.bounds l.entries well.entries span.left span.right (span.end - span.begin) span.begin span.end path is.left is.right joined (omega (arith, is.forward))
 

@@ -5,13 +5,12 @@ use Rattle.std.specs.List.{range_with_len}
 use Rattle.std.proofs.lemmas.Int.{ints}
 use Rattle.mz_base.specs.Data.{DataLists, connection}
 use Rattle.mz_base.specs.declared.lattice.Entry.{Entry}
-use Rattle.mz_base.specs.declared.lattice.Lattice.{Lattice}
 use Rattle.mz_base.specs.declared.lattice.Span.{Span}
 use Rattle.conversion_meaning.specs.Best.{IsBest}
 use Rattle.conversion_meaning.specs.Certificates.{Claim, AreMet, IsCertificate, entry_in, potential}
 use Rattle.conversion_meaning.specs.Lattices.{entry}
 use Rattle.conversion_meaning.specs.Order.{IsBefore}
-use Rattle.conversion_meaning.specs.Paths.{IsPath, IsPathOver, IsSpan, cost_between, path_cost}
+use Rattle.conversion_meaning.specs.Paths.{IsPath, IsPathOver, cost_between, path_cost}
 use Rattle.conversion_meaning.specs.Potentials.{is_in, ordinals_in, AreLeastCosts}
 use Rattle.conversion_meaning.proofs.Lists.{Among-get_or, from_filter, from_range}
 use Rattle.conversion_meaning.proofs.Ordered.{order_cases, not_before_back}

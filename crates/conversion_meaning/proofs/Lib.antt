@@ -8,5 +8,7 @@ pub mod LeastCosts
 pub mod Counts
 pub mod CostBounds
 pub mod LatticeLemmas
+pub mod Recurrence
+pub mod AllPathsLemmas
 pub mod VerdictLemmas
 pub mod Tests

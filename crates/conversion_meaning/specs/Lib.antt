@@ -9,5 +9,6 @@ pub mod Laws
 pub mod Order
 pub mod Paths
 pub mod Potentials
+pub mod Steps
 pub mod Values
 pub mod Verdicts

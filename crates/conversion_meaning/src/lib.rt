@@ -2,6 +2,7 @@
 //! definitions, and each function here is a law of them, which its clause states. Start at [`one_is_best`].
 #![tactic(auto)]
 
+mod all_paths;
 mod best;
 mod bounds;
 mod certificates;
@@ -10,7 +11,8 @@ mod examples;
 mod lattices;
 mod order;
 
-pub use best::{best_is_one, one_is_best};
+pub use all_paths::{all_paths_are_listed, all_paths_are_once, listed_are_all_paths};
+pub use best::{best_gives_least_cost, best_goes_on, best_is_one, nothing_is_best, one_is_best};
 pub use bounds::{entries_are_few, least_costs_are_small, path_costs_are_small};
 pub use certificates::{
     certificates_have_no_fault, fault_is_one, least_costs_certify, none_costs_less,

@@ -38,25 +38,3 @@ pub trait UserWords {
     /// There are not too many.
     ghost few: { (x : Self) → length (rows x) ≤ MOST_USER_ROWS };
 }
-
-/// A user without words.
-#[derive(Clone, Copy)]
-pub struct NoUserWords;
-
-impl UserWords for NoUserWords {
-    ghost use Rattle.std.specs.Prelude.{[]};
-    ghost use Rattle.std.proofs.Common.{rules};
-
-    ghost rows = { λ _. [] };
-
-    ghost few = { λ _. Prim.search rules };
-
-    #[tactic(auto, unfolding(crate::specs::Data::places))]
-    fn rows_of(&self, _reading: &[char]) -> &[u32] {
-        &[]
-    }
-
-    fn row(&self, _place: u32) -> &UserRow {
-        unreachable!()
-    }
-}
