@@ -1,0 +1,4 @@
+pub mod IdColumns
+pub mod Ids
+pub mod JoinColumns
+pub mod Joins
