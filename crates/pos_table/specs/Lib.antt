@@ -1,3 +1,5 @@
+pub mod ClassColumns
+pub mod Classes
 pub mod IdColumns
 pub mod Ids
 pub mod JoinColumns

@@ -5,6 +5,8 @@
 
 mod ids;
 mod joins;
+mod unknown;
 
 pub use ids::{Ids, read_ids};
 pub use joins::{Joins, read_joins};
+pub use unknown::{UNKNOWN_COST, UNKNOWN_ID, Unknown, read_unknown};
