@@ -1,4 +1,5 @@
 pub mod AnswerLemmas
+pub mod LatestSteps
 pub mod LimitLemmas
 pub mod NumberLemmas
 pub mod RowSteps
