@@ -4,3 +4,5 @@ pub mod IdColumns
 pub mod Ids
 pub mod JoinColumns
 pub mod Joins
+pub mod PosColumns
+pub mod UserPos

@@ -6,7 +6,9 @@
 mod ids;
 mod joins;
 mod unknown;
+mod user_pos;
 
 pub use ids::{Ids, read_ids};
 pub use joins::{Joins, read_joins};
 pub use unknown::{UNKNOWN_COST, UNKNOWN_ID, Unknown, read_unknown};
+pub use user_pos::{UserPos, read_user_pos};
