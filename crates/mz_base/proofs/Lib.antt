@@ -1,5 +1,6 @@
 pub mod AnswerLemmas
 pub mod Found
+pub mod LatestSteps
 pub mod LimitLemmas
 pub mod NumberLemmas
 pub mod RowFacts

@@ -1,0 +1,2 @@
+pub mod IdSlots
+pub mod LatestLemmas

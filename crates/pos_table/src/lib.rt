@@ -1,0 +1,14 @@
+//! The smaller files of a data set: ids with their features, nodes for unknown words, rows of segments, a user's
+//! parts of speech, symbols and single kanji. Start at the six functions `read_..`.
+//! What a line of each gives: specs/, and docs/FORMATS.md.
+#![tactic(auto)]
+
+mod ids;
+mod joins;
+mod unknown;
+mod user_pos;
+
+pub use ids::{Ids, read_ids};
+pub use joins::{Joins, read_joins};
+pub use unknown::{UNKNOWN_COST, UNKNOWN_ID, Unknown, read_unknown};
+pub use user_pos::{UserPos, read_user_pos};
