@@ -40,7 +40,7 @@ pub record AreInOrder (e later : Entry) : Type 0 where
   pub begins : e.begin ≤ later.begin
   pub ends : e.begin ≡ later.begin → e.end ≤ later.end
 
--- some entry has the character at this position, and no other
+-- some entry is of just the character at this position
 abbrev pub HasCharacter : List Entry → ℕ → Type 0
 HasCharacter es position =
     (o : ℕ) × (o < length es) × ((entry es o).begin ≡ position) × ((entry es o).end ≡ position + 1)
