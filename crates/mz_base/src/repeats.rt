@@ -2,7 +2,7 @@ ghost use Rattle.std.specs.Prelude.{◌≡◌, IfOk, List, ℕ};
 ghost use Rattle.std.specs.Str.{bytes_eq};
 ghost use Rattle.mz_base.specs.Latest.{latest};
 
-use crate::{NoMemory, PosRow};
+use crate::{NoMemory, PosRow, Rule};
 use std::alloc::Global;
 use std::collections::HashSet;
 
@@ -12,6 +12,14 @@ pub trait Named {
 
     fn name(&self) -> &[char]
         ensures { result.now ≡ name self.now };
+}
+
+impl Named for Rule {
+    ghost name = { λ rule. rule.input };
+
+    fn name(&self) -> &[char] {
+        self.input.as_chars()
+    }
 }
 
 impl Named for PosRow {

@@ -5,7 +5,6 @@
 mod index;
 mod law;
 mod reader;
-mod repeats;
 mod row;
 mod table;
 

@@ -6,9 +6,8 @@ ghost use Rattle.mz_base.specs.Latest.{latest};
 ghost use Rattle.romaji_table.specs.Repeats.{same_input};
 ghost use Rattle.romaji_table.specs.Rows.{romaji_rows};
 
-use crate::repeats::keep_latest;
 use crate::{RuleReader, Table};
-use mz_base::{NoMemory, ReadError, Rule, read_rows};
+use mz_base::{NoMemory, ReadError, Rule, keep_latest, read_rows};
 use std::alloc::Global;
 
 /// Reads a romaji file.
