@@ -10,6 +10,8 @@ mod refusal;
 mod script;
 mod serving;
 mod session;
+#[cfg(test)]
+mod tests;
 mod world;
 
 pub use laws::run_order_is_complete;
