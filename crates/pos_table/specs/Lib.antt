@@ -1,5 +1,6 @@
 pub mod ClassColumns
 pub mod Classes
+pub mod Groups
 pub mod IdColumns
 pub mod Ids
 pub mod JoinColumns

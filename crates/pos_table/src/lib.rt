@@ -3,6 +3,7 @@
 //! What a line of each gives: specs/, and docs/FORMATS.md.
 #![tactic(auto)]
 
+mod groups;
 mod ids;
 mod joins;
 mod unknown;
