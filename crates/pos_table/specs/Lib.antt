@@ -7,3 +7,5 @@ pub mod JoinColumns
 pub mod Joins
 pub mod PosColumns
 pub mod UserPos
+pub mod ValueColumns
+pub mod Values
