@@ -18,3 +18,6 @@ pub use kanji::{Kanji, read_kanji};
 pub use symbols::{Symbols, read_symbols};
 pub use unknown::{UNKNOWN_COST, UNKNOWN_ID, Unknown, read_unknown};
 pub use user_pos::{UserPos, read_user_pos};
+
+#[cfg(test)]
+mod tests;
