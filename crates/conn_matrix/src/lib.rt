@@ -8,3 +8,6 @@ mod reader;
 
 pub use laws::{costs_stand_on_their_lines, tables_are_sound};
 pub use matrix::Matrix;
+
+#[cfg(test)]
+mod tests;

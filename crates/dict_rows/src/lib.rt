@@ -7,3 +7,6 @@ mod reader;
 mod tally;
 
 pub use reader::read;
+
+#[cfg(test)]
+mod tests;

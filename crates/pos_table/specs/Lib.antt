@@ -1,8 +1,11 @@
 pub mod ClassColumns
 pub mod Classes
+pub mod Groups
 pub mod IdColumns
 pub mod Ids
 pub mod JoinColumns
 pub mod Joins
 pub mod PosColumns
 pub mod UserPos
+pub mod ValueColumns
+pub mod Values

@@ -3,12 +3,21 @@
 //! What a line of each gives: specs/, and docs/FORMATS.md.
 #![tactic(auto)]
 
+mod groups;
 mod ids;
 mod joins;
+mod kanji;
+mod symbols;
 mod unknown;
 mod user_pos;
+mod values;
 
 pub use ids::{Ids, read_ids};
 pub use joins::{Joins, read_joins};
+pub use kanji::{Kanji, read_kanji};
+pub use symbols::{Symbols, read_symbols};
 pub use unknown::{UNKNOWN_COST, UNKNOWN_ID, Unknown, read_unknown};
 pub use user_pos::{UserPos, read_user_pos};
+
+#[cfg(test)]
+mod tests;

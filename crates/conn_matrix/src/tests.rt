@@ -1,0 +1,71 @@
+use super::*;
+use mz_base::{FaultKind, NoMemory, ReadError};
+use std::alloc::Global;
+
+/// The size and the first cost of a file, or its fault.
+fn sizes(alloc: Global, bytes: &[u8]) -> Option<Result<(u32, Option<i32>), FaultKind>> {
+    match Matrix::read(alloc, bytes) {
+        Ok(matrix) => Some(Ok((matrix.size(), matrix.rows().first().copied()))),
+        Err(ReadError::Fault(kind)) => Some(Err(kind)),
+        Err(ReadError::NoMemory) => None,
+    }
+}
+
+#[test]
+fn reads_the_lines_of_a_file(rt: HostRuntime) {
+    let count = |wanted, found| FaultKind::Count { wanted, found };
+    let cases: [(&[u8], Result<(u32, Option<i32>), FaultKind>); 26] = [
+        (b"1\n0\n", Ok((1, Some(0)))),
+        (b"\xEF\xBB\xBF1\r\n-7\r\n", Ok((1, Some(-7)))),
+        (b"1\n5\n\n\r\n\n", Ok((1, Some(5)))),
+        (b"0001\n-0000000005", Ok((1, Some(-5)))),
+        (b"", Err(FaultKind::Size)),
+        (b"\n1\n0\n", Err(FaultKind::Size)),
+        (b"0\n", Err(FaultKind::Size)),
+        (b"4097\n", Err(FaultKind::Size)),
+        (b"-1\n", Err(FaultKind::Size)),
+        (b"1 \n0\n", Err(FaultKind::Size)),
+        (b"00000000001\n0\n", Err(FaultKind::Size)),
+        (b"\xFF\n0\n", Err(FaultKind::NotUtf8(1))),
+        (b"4096\n", Err(count(16_777_216, 0))),
+        (b"3\n1\n2\n3\n4\n5\n6\n7\n8\n", Err(count(9, 8))),
+        (b"1\n0\n0\n", Err(count(1, 2))),
+        (b"1\n1000000\n", Ok((1, Some(1_000_000)))),
+        (b"1\n-1000000\n", Ok((1, Some(-1_000_000)))),
+        (b"1\n1000001\n", Err(FaultKind::Range(2))),
+        (b"1\n-1000001\n", Err(FaultKind::Range(2))),
+        (b"2\n0\n\n0\n0\n", Err(FaultKind::Number(3))),
+        (b"2\n0\n\n\n\xFF\n", Err(FaultKind::Number(3))),
+        (b"2\n0\n\xFF\n\n", Err(FaultKind::NotUtf8(3))),
+        (b"2\n0\n+1\n9999999\n", Err(FaultKind::Number(3))),
+        (b"2\n0\n9999999\nx\n", Err(FaultKind::Range(3))),
+        (b"2\n0\n12345678901\n", Err(FaultKind::Number(3))),
+        // A fault counts before the number of lines.
+        (b"1\n0\n0\n0\nx\n", Err(FaultKind::Number(5))),
+    ];
+    for (index, (bytes, wanted)) in cases.into_iter().enumerate() {
+        assert_eq!(rt; sizes(rt.alloc(), bytes), Some(wanted), "case {index}");
+    }
+}
+
+#[test]
+fn costs_go_by_right_id_first(rt: HostRuntime) -> Result<(), ReadError> {
+    let matrix = Matrix::read(rt.alloc(), b"2\n10\n11\n12\n13\n")?;
+    assert_eq!(rt; matrix.size(), 2);
+    let cases = [(0, 0, 10), (0, 1, 11), (1, 0, 12), (1, 1, 13)];
+    for (r, l, wanted) in cases {
+        if r < 2 && l < 2 {
+            assert_eq!(rt; matrix.cost(r, l), wanted, "at {r} {l}");
+        }
+    }
+    Ok(())
+}
+
+#[test]
+fn rows_give_the_matrix_again(rt: HostRuntime) -> Result<(), NoMemory> {
+    let costs = Vec::from_slice(rt.alloc(), &[3, -4, 5, 6])?;
+    assert_eq!(rt; costs.len(), 4);
+    let matrix = Matrix::from_rows(2, costs);
+    assert_eq!(rt; matrix.rows(), [3, -4, 5, 6].as_slice());
+    Ok(())
+}

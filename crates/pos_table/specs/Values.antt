@@ -1,0 +1,52 @@
+-- The rows of the files of symbols and of single kanji: docs/FORMATS.md, "Symbols" and "Kanji".
+use Rattle.std.specs.Prelude.{ℕ, ◌==◌, ◌||◌, Bool, not, List, [], ◌∷◌, map, Option, Some, None, Result, Ok, Err, if◌then◌else◌, length, nat_le}
+use Rattle.std.specs.List.{flat_map}
+use Rattle.std.specs.Str.{chars, is_utf8}
+use Rattle.mz_base.specs.Answers.{◌>>=◌}
+use Rattle.mz_base.specs.Limits.{is_long}
+use Rattle.mz_base.specs.Lines.{lines_of, fields_of}
+use Rattle.mz_base.specs.Rows.{rows_after}
+use Rattle.mz_base.specs.declared.data.TheConstants.{MOST_ROWS}
+use Rattle.mz_base.specs.declared.data.ValueRow.{ValueRow}
+use Rattle.mz_base.specs.declared.fault.FaultKind.{FaultKind}
+use Rattle.mz_base.specs.declared.fault.FaultKind.TheVariants.{NotUtf8, Fields, Empty, Limit}
+
+-- the fields of a row, before they are read
+pub record ValueFields : Type 0 where
+  pub reading : List ℕ
+  pub value : List ℕ
+
+-- reading and value; further fields do not count
+abbrev pub value_fields : List (List ℕ) → Option ValueFields
+value_fields (reading ∷ value ∷ more) = Some (record { reading = reading; value = value })
+value_fields _ = None
+
+abbrev pub fields_value : ℕ → Option ValueFields → Result ValueRow FaultKind
+fields_value number None = Err (Fields number)
+fields_value number (Some row) =
+    if (length row.reading == 0) || (length row.value == 0) then Err (Empty number) else
+    if is_long row.reading || is_long row.value then Err (Limit number) else
+    Ok (record { reading = chars row.reading; value = chars row.value })
+
+-- the row that a line has
+abbrev pub value_in : ℕ → List ℕ → Result ValueRow FaultKind
+value_in number line = fields_value number (value_fields (fields_of line))
+
+-- what the line with this number gives after these rows; an empty line gives none
+unfoldable pub value_row : List ValueRow → ℕ → List ℕ → Result (Option ValueRow) FaultKind
+value_row rows number line =
+    if not (is_utf8 line) then Err (NotUtf8 number) else
+    if length line == 0 then Ok None else
+    value_in number line >>= (λ row. if nat_le MOST_ROWS (length rows) then Err (Limit number) else Ok (Some row))
+
+-- the rows of a file, or its first fault
+abbrev pub value_rows : List ℕ → Result (List ValueRow) FaultKind
+value_rows bytes = rows_after value_row [] 1 (lines_of bytes)
+
+-- each character of a row is a value
+abbrev pub kanji_of : ValueRow → List ValueRow
+kanji_of row = map (λ letter. record { reading = row.reading; value = letter ∷ [] }) row.value
+
+-- the rows with a row for each character
+unfoldable pub kanji_rows : List ValueRow → List ValueRow
+kanji_rows rows = flat_map kanji_of rows
