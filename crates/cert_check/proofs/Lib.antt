@@ -1,2 +1,4 @@
 pub mod OrderLemmas
 pub mod WalkLemmas
+pub mod TargetLemmas
+pub mod ClaimLemmas

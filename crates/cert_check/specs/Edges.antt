@@ -1,5 +1,5 @@
 -- The edges of a certificate, target by target: docs/CONVERSION.md, "Verdict".
-use Rattle.std.specs.Prelude.{◌≡◌, ℕ, ◌+◌, ◌<◌, ℤ, pos, ◌+ℤ◌, ◌≤ℤ◌, ◌<ℤ◌, List, length, nat_lt, if◌then◌else◌, slice_index, slice_index_or, Option, Some, None}
+use Rattle.std.specs.Prelude.{◌≡◌, ℕ, ◌+◌, ◌<◌, ◌≤◌, ℤ, pos, ◌+ℤ◌, ◌≤ℤ◌, ◌<ℤ◌, List, Contains, length, nat_lt, if◌then◌else◌, slice_index, slice_index_or, Option, Some, None}
 use Rattle.mz_base.specs.Data.{DataLists, connection}
 use Rattle.mz_base.specs.declared.lattice.Entry.{Entry}
 use Rattle.conversion_meaning.specs.Lattices.{entry}
@@ -67,6 +67,10 @@ FirstSource d es potentials target (Some o) = IsFirstSource d es potentials targ
 abbrev pub IsStartMet : DataLists → Target → Type 0
 IsStartMet d target = target.begin ≡ 0 → IsMetBy d start target
 
+-- they touch, and it does not
+abbrev pub IsStartUnmet : DataLists → Target → Type 0
+IsStartUnmet d target = (target.begin ≡ 0) × IsUnmetBy d start target
+
 -- each source that touches the target meets it
 pub record AreMetInto (d : DataLists) (es : List Entry) (potentials : List ℤ) (target : Target) : Type 0 where
   pub first : IsStartMet d target
@@ -74,7 +78,7 @@ pub record AreMetInto (d : DataLists) (es : List Entry) (potentials : List ℤ) 
 
 -- the first source, the start before the entries, that touches the target and does not meet it
 abbrev pub IsFirstInto : DataLists → List Entry → List ℤ → Target → Option ℕ → Type 0
-IsFirstInto d es potentials target None = (target.begin ≡ 0) × IsUnmetBy d start target
+IsFirstInto d es potentials target None = IsStartUnmet d target
 IsFirstInto d es potentials target (Some o) =
     IsStartMet d target × IsFirstSource d es potentials target o
 
@@ -103,3 +107,12 @@ FirstEdge d es potentials end (Some edge) = IsFirstEdge d es potentials end edge
 -- the entries before a place in the order of ends end before this position
 pub record EndBefore (es : List Entry) (by_end : List ℕ) (position cursor : ℕ) : Type 0 where
   pub each : (k : ℕ) → k < cursor → (entry es (slice_index by_end k)).end < position
+
+-- entries begin in order, none past this position
+pub record BeginsRise (es : List Entry) (last : ℕ) : Type 0 where
+  pub rising : (o : ℕ) → o + 1 < length es → (entry es o).begin ≤ (entry es (o + 1)).begin
+  pub inside : (o : ℕ) → o < length es → (entry es o).begin ≤ last
+
+-- each number below the length of the list is in it
+abbrev pub AreOrdinals : List ℕ → Type 0
+AreOrdinals xs = (o : ℕ) → o < length xs → Contains xs o

@@ -1,5 +1,5 @@
-ghost use Rattle.std.specs.Prelude.{◌≡◌, ◌<◌, ◌≤◌, ◌↔◌, IsTrue, length};
-ghost use Rattle.cert_check.specs.Edges.{IsMetBy, source_at, target_at};
+ghost use Rattle.std.specs.Prelude.{◌≡◌, ◌<◌, ◌≤◌, ◌↔◌, IsTrue, true, false, length};
+ghost use Rattle.cert_check.specs.Edges.{IsMetBy, IsStartMet, IsStartUnmet, source_at, target_at};
 
 use mz_base::{DataSet, Entry};
 
@@ -35,6 +35,20 @@ pub fn is_met<D: DataSet>(set: &D, source: &Source, target: &Target) -> bool
     // Potentials are whatever the certificate says, so 64 bits may not hold the sum.
     let connection = set.conn(source.rid, target.lid) as i128;
     target.potential as i128 <= source.potential as i128 + connection + target.cost as i128
+}
+
+/// Whether the start meets the target, where they touch.
+pub fn meets_start<D: DataSet>(set: &D, target: &Target) -> bool
+    requires some { 0 < (D.lists set.now).ids }
+    requires left { target.now.lid < (D.lists set.now).ids }
+    ensures met { result ≡ true → IsStartMet (D.lists set.now) target.now }
+    ensures unmet { result ≡ false → IsStartUnmet (D.lists set.now) target.now }
+{
+    let start = Source {
+        rid: 0,
+        potential: 0,
+    };
+    target.begin != 0 || is_met(set, &start, target)
 }
 
 pub fn nth_source(entries: &[Entry], potentials: &[i64], ordinal: u32) -> Source
