@@ -1,5 +1,5 @@
 -- What the tests by rank say of a claim on a whole key.
-use Rattle.std.proofs.Common.{◌≡◌, refl, sym, ap, subst, ◌∙◌, ℕ, ◌+◌, ◌<◌, ◌≤◌, ◌⊎◌, inl, inr, List, length, Option, Some, None, arith}
+use Rattle.std.proofs.Common.{◌≡◌, refl, sym, ap, subst, ◌∙◌, ℕ, ◌+◌, ◌<◌, ◌≤◌, zero-add, ◌⊎◌, inl, inr, List, length, Option, Some, None, arith}
 use Rattle.std.specs.Prelude.{ℤ, pos, slice_index}
 use Rattle.std.specs.List.{range_with_len}
 use Rattle.std.proofs.lemmas.List.FromFn.{get_or-range_with_len, length-range_with_len}
@@ -13,7 +13,7 @@ use Rattle.cert_check.specs.declared.edge.Edge.{Edge}
 use Rattle.cert_check.specs.declared.edge.Source.{Source}
 use Rattle.cert_check.specs.declared.edge.Target.{Target}
 use Rattle.cert_check.specs.Claims.{claimed, IsEnd}
-use Rattle.cert_check.specs.Edges.{AreMetInto, AreMetTo, EndsAt, IsFirstEdge, IsFirstInto, IsMetBy, IsUnmetBy, ordinal_at, source_at, start, target_at, target_of}
+use Rattle.cert_check.specs.Edges.{AreMetInto, AreMetTo, IsFirstEdge, IsFirstInto, IsMetBy, IsUnmetBy, ordinal_at, source_at, target_at}
 use Rattle.cert_check.specs.Walks.{key_span}
 use Rattle.cert_check.proofs.TargetLemmas.{ordinal_at-end, ordinal_at-entry, target_at-end, target_at-entry}
 
@@ -34,7 +34,7 @@ module _ (d : DataLists) (es : List Entry) (path : List ℕ) (potentials : List 
 
   place_is : (place : ℕ) → place < length es → entry_in (claimed d es path potentials end) place ≡ entry es place
   place_is place inside =
-      ap (entry es) (ap (λ os. slice_index os place) all ∙ get_or-range_with_len 0 (length es) place 0 inside)
+      ap (entry es) (ap (λ os. slice_index os place) all ∙ (get_or-range_with_len 0 (length es) place 0 inside ∙ zero-add place))
 
   rank_inside : (target : Option ℕ) → IsSide (claimed d es path potentials end) target → target_rank (claimed d es path potentials end) target < length es + 1
   rank_inside None is = omega (arith, count)
@@ -48,7 +48,8 @@ module _ (d : DataLists) (es : List Entry) (path : List ℕ) (potentials : List 
       e ∙ ends_as end free left
     where
       ends_as : (t : Target) → t.cost ≡ pos 0 → t.lid ≡ 0 → t ≡ record { begin = t.begin; lid = 0; cost = pos 0; potential = t.potential }
-      ends_as t free left = cc
+      ends_as t free left =
+          ap (λ z. record { begin = t.begin; lid = t.lid; cost = z; potential = t.potential }) free ∙ ap (λ n. record { begin = t.begin; lid = n; cost = pos 0; potential = t.potential }) left
   target_is (Some place) is =
       let inside : place < length es = omega (arith, is, count) in
       let e = target_at-entry es potentials end place inside in
@@ -70,7 +71,7 @@ module _ (d : DataLists) (es : List Entry) (path : List ℕ) (potentials : List 
       subst (λ (s : Source). IsMetBy d s (target_in (claimed d es path potentials end) target)) (sym (source_is place inside)) (met.entries.each place inside (record { inside = inside; ends = touch }))
 
   -- where each target is met, each edge is
-  pub all_met : AreMetTo d es potentials end (length es + 1) → AreMet C
+  pub all_met : AreMetTo d es potentials end (length es + 1) → AreMet (claimed d es path potentials end)
   all_met met source target edge =
       met_into source target edge (subst (λ (t : Target). AreMetInto d es potentials t) (target_is target edge.target_is) (met.each (target_rank (claimed d es path potentials end) target) (rank_inside target edge.target_is)))
 

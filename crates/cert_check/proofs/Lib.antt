@@ -2,3 +2,4 @@ pub mod OrderLemmas
 pub mod WalkLemmas
 pub mod TargetLemmas
 pub mod ClaimLemmas
+pub mod LatticeFacts

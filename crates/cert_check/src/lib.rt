@@ -6,4 +6,7 @@
 mod cursor;
 mod edge;
 mod edges;
+mod verdict;
 mod walk;
+
+pub use verdict::check;

@@ -2,7 +2,7 @@ use Rattle.std.proofs.Common.{arith, rules, ◌↔◌, IsTrue, ◌≡◌, sym, �
 use mir.Syntax.{w32, w64, w128}
 use mir.Val.{SFits}
 use lib.Signed.{le_z}
-use Rattle.std.proofs.lemmas.Int.{ints, to_z-of_z}
+use Rattle.std.proofs.lemmas.Int.{ints}
 use Rattle.cert_check.proofs.edge.is_met.Goals as goal
 
 -- 128 bits hold all that is summed

@@ -1,6 +1,6 @@
-use Rattle.std.proofs.Common.{◌≡◌, sym, subst, ap, arith, ◌≤◌, None, Option}
+use Rattle.std.proofs.Common.{◌≡◌, subst, ap, arith}
 use Rattle.cert_check.specs.declared.edge.Target.{Target}
-use Rattle.cert_check.specs.Edges.{AreMetInto, FirstInto, target_at}
+use Rattle.cert_check.specs.Edges.{AreMetInto, target_at}
 use Rattle.cert_check.proofs.TargetLemmas.{AreMetTo-next, EndBefore-later, begin-rises}
 use Rattle.cert_check.proofs.edges.unmet_edge.Goals as goal
 

@@ -1,7 +1,4 @@
-use Rattle.std.proofs.Common.{arith, ◌<◌, ◌≤◌, ◌≡◌, ◌⊎◌, inl, inr, length}
-use Rattle.std.specs.Prelude.{slice_index}
-use Rattle.conversion_meaning.specs.Lattices.{entry}
-use Rattle.cert_check.specs.Edges.{IsMetBy, IsUnmetBy, source_at}
+use Rattle.std.proofs.Common.{arith, inl, inr}
 use Rattle.cert_check.proofs.OrderLemmas.{between_next, first_source, judged_met, judged_unmet, met_below}
 use Rattle.cert_check.proofs.edges.unmet_source.Goals as goal
 

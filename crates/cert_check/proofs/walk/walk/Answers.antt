@@ -1,6 +1,4 @@
-use Rattle.std.proofs.Common.{arith, rules, ◌≡◌, sym, subst, ◌+ℤ◌, ℤ, to_z, of_z}
-use mir.Syntax.{w32, w64}
-use mir.Val.{SFits}
+use Rattle.std.proofs.Common.{arith, sym, subst}
 use Rattle.std.proofs.lemmas.Int.{ints}
 use Rattle.mz_base.specs.Data.{IsCost}
 use Rattle.cert_check.proofs.WalkLemmas.{Follows-sound, IsAt-next, IsAt-end}
