@@ -5,6 +5,7 @@ use Rattle.std.proofs.lemmas.Int.{ints}
 use Rattle.std.proofs.lemmas.List.{take_more, take_all, drop_all}
 use Rattle.mz_base.specs.Data.{DataLists, IsCost, connection}
 use Rattle.mz_base.specs.declared.lattice.Entry.{Entry}
+use Rattle.conversion_meaning.specs.Bounds.{most_step}
 use Rattle.conversion_meaning.specs.Lattices.{entry}
 use Rattle.conversion_meaning.specs.Paths.{IsPath, IsPathOver, cost_between, path_cost}
 use Rattle.cert_check.specs.Walks.{AreInside, AreSound, Follows, IsSound, key_span}
@@ -19,8 +20,8 @@ IsPath-push es from here o (x ∷ path) joined inside begins =
 pub record IsAt (d : DataLists) (es : List Entry) (last : ℕ) (path : List ℕ) (here rid : ℕ) (cost : ℤ) (place : ℕ) : Type 0 where
   pub joined : IsPath es 0 here (take place path)
   pub sum : cost +ℤ cost_between d es rid 0 (drop place path) ≡ cost_between d es 0 0 path
-  pub low : neg_ℤ (pos (2000000 * here)) ≤ℤ cost
-  pub high : cost ≤ℤ pos (2000000 * here)
+  pub low : neg_ℤ (pos (most_step * here)) ≤ℤ cost
+  pub high : cost ≤ℤ pos (most_step * here)
   pub inside : here ≤ last
   pub id : rid < d.ids
 

@@ -1,11 +1,14 @@
 -- What is claimed of a whole key, and of which entries it is judged: docs/CONVERSION.md, "Verdict".
-use Rattle.std.specs.Prelude.{◌≡◌, ℕ, ◌<◌, ◌≤◌, ℤ, pos, List, length}
+use Rattle.std.specs.Prelude.{◌≡◌, ℕ, ◌<◌, ◌≤◌, ℤ, pos, ◌≤ℤ◌, List, length}
 use Rattle.std.specs.List.{range_with_len}
 use Rattle.mz_base.specs.Data.{DataLists}
+use Rattle.mz_base.specs.declared.lattice.Certificate.{Certificate}
 use Rattle.mz_base.specs.declared.lattice.Entry.{Entry}
+use Rattle.mz_base.specs.declared.lattice.Lattice.{Lattice}
 use Rattle.mz_base.specs.declared.lattice.TheConstants.{MOST_KEY}
-use Rattle.conversion_meaning.specs.Certificates.{Claim}
+use Rattle.conversion_meaning.specs.Certificates.{Claim, claim_of}
 use Rattle.conversion_meaning.specs.Lattices.{IsByEnd}
+use Rattle.conversion_meaning.specs.Paths.{IsPathOver, path_cost, whole}
 use Rattle.conversion_meaning.specs.Potentials.{ordinals_in}
 use Rattle.cert_check.specs.declared.edge.Target.{Target}
 use Rattle.cert_check.specs.Edges.{BeginsRise}
@@ -31,3 +34,12 @@ pub record AreReady (d : DataLists) (es : List Entry) (by_end : List ℕ) (end :
 abbrev pub claimed : DataLists → List Entry → List ℕ → List ℤ → Target → Claim
 claimed d es path potentials end =
     record { lists = d; entries = es; span = key_span end.begin; path = path; potentials = potentials; total = end.potential }
+
+-- what a certificate claims of a lattice's whole key
+abbrev pub key_claim : DataLists → Lattice → Certificate → Claim
+key_claim d l certificate = claim_of d l.entries (whole l 0) certificate
+
+-- no path costs less than the total
+abbrev pub NoneIsCheaper : Claim → Type 0
+NoneIsCheaper c =
+    (other : List ℕ) → IsPathOver c.entries c.span other → c.total ≤ℤ path_cost c.lists c.entries c.span other

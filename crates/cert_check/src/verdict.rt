@@ -1,9 +1,7 @@
-ghost use Rattle.std.specs.Prelude.{◌≡◌, ℕ, List, length, OnOk, ◌≤ℤ◌};
-ghost use Rattle.conversion_meaning.specs.Certificates.{claim_of};
+ghost use Rattle.std.specs.Prelude.{OnOk};
 ghost use Rattle.conversion_meaning.specs.Lattices.{IsWellFormed};
-ghost use Rattle.conversion_meaning.specs.Paths.{IsPathOver, path_cost, whole};
 ghost use Rattle.conversion_meaning.specs.Verdicts.{IsVerdict};
-ghost use Rattle.cert_check.specs.Claims.{AreReady, claimed};
+ghost use Rattle.cert_check.specs.Claims.{AreReady, NoneIsCheaper, claimed, key_claim};
 
 use crate::edge::{Edge, Target};
 use crate::edges::unmet_edge;
@@ -18,8 +16,8 @@ pub fn check<D: DataSet>(
     certificate: &Certificate,
 ) -> Result<(), CertFault>
     requires { IsWellFormed (D.lists set.now) lattice.now }
-    ensures verdict { IsVerdict (claim_of (D.lists set.now) lattice.now.entries (whole lattice.now 0) certificate.now) result }
-    ensures least { OnOk result ((other : List ℕ) → IsPathOver lattice.now.entries (whole lattice.now 0) other → certificate.now.total ≤ℤ path_cost (D.lists set.now) lattice.now.entries (whole lattice.now 0) other) }
+    ensures verdict { IsVerdict (key_claim (D.lists set.now) lattice.now certificate.now) result }
+    ensures least { OnOk result (NoneIsCheaper (key_claim (D.lists set.now) lattice.now certificate.now)) }
 {
     let end = Target {
         begin: lattice.key.as_slice().len() as u16,
