@@ -1,0 +1,6 @@
+pub mod Filters
+pub mod IndexRows
+pub mod KeyParts
+pub mod PackedTexts
+pub mod SameNumbers
+pub mod Standing

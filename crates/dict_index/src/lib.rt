@@ -1,0 +1,15 @@
+//! Look-up of a dictionary's rows by their readings: in a key, and by a prefix. Start at [`WordIndex`] and
+//! [`SortedIndex::build`].
+//! What the look-ups give: `mz_base`, specs/Data.antt. What the index keeps: specs/Order.antt.
+#![tactic(auto)]
+
+mod look_up;
+mod order;
+mod packed;
+mod sorted;
+#[cfg(test)]
+mod tests;
+mod word_index;
+
+pub use sorted::SortedIndex;
+pub use word_index::WordIndex;

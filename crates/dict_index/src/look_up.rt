@@ -1,0 +1,74 @@
+ghost use Rattle.std.specs.Prelude.{◌≡◌, ◌++◌, ◌<◌, ◌≤◌, IfOk, OnOk, length, map, slice_range};
+ghost use Rattle.mz_base.specs.Data.{rows_with_prefix, hits_at};
+ghost use Rattle.mz_base.specs.declared.data.Hit.{Hit};
+ghost use Rattle.mz_base.specs.declared.data.TheConstants.{MOST_LOOKED_UP};
+ghost use Rattle.dict_index.specs.Order.{IsIndex};
+
+use crate::order::block;
+use crate::packed::Packed;
+use mz_base::{Hit, MOST_LOOKED_UP, NoMemory};
+use std::alloc::Global;
+
+/// The places of the texts that stand in the key from here on, by end and then by place.
+pub fn hits_from(
+    alloc: Global,
+    texts: &Packed,
+    places: &[u32],
+    key: &[char],
+    begin: usize,
+) -> Result<Vec<Hit>, NoMemory>
+    requires index { IsIndex texts.now places.now }
+    requires inside { begin < length key.now }
+    requires short { length key.now ≤ MOST_LOOKED_UP }
+    ensures { IfOk result (λ hits. hits.items ≡ hits_at texts.now key.now begin) }
+{
+    let mut hits = Vec::new(alloc);
+    // The places whose texts begin with what of the key is passed so far.
+    let mut begun = places;
+    for end in begin + 1..key.len() + 1 {
+        let part = part(key, begin, end);
+        begun = block(texts, begun, part.len(), part);
+        if begun.is_empty() {
+            break;
+        }
+        let found = block(texts, begun, part.len() + 1, part);
+        add_hits(&mut hits, end as u16, found)?;
+    }
+    Ok(hits)
+}
+
+/// The places of the texts that begin with the prefix, rising.
+pub fn rows_from(
+    alloc: Global,
+    texts: &Packed,
+    places: &[u32],
+    prefix: &[char],
+) -> Result<Vec<u32>, NoMemory>
+    requires { IsIndex texts.now places.now }
+    ensures { IfOk result (λ rows. rows.items ≡ rows_with_prefix texts.now prefix.now) }
+{
+    let found = block(texts, places, prefix.len(), prefix);
+    let mut rows = Vec::from_slice(alloc, found)?;
+    rows.sort()?;
+    Ok(rows)
+}
+
+/// The characters of the key from one place to another.
+fn part(key: &[char], begin: usize, end: usize) -> &[char]
+    requires ordered { begin ≤ end }
+    requires inside { end ≤ length key.now }
+    ensures { result.now ≡ slice_range key.now begin end }
+{
+    let (front, _) = key.split_at(end);
+    let (_, part) = front.split_at(begin);
+    part
+}
+
+fn add_hits(hits: &mut Vec<Hit>, end: u16, rows: &[u32]) -> Result<(), NoMemory>
+    ensures { OnOk result (hits.new.items ≡ hits.old.items ++ map (λ row. record { end = end; row = row }) rows.now) }
+{
+    for row in rows {
+        hits.push(Hit { end, row: *row })?;
+    }
+    Ok(())
+}

@@ -1,0 +1,53 @@
+ghost use Rattle.std.specs.Prelude.{◌≡◌, ◌≤◌, IfOk, length, map};
+ghost use Rattle.mz_base.specs.declared.data.TheConstants.{MOST_WORDS};
+ghost use Rattle.mz_base.specs.declared.data.WordRow.{WordRow};
+
+use crate::WordIndex;
+use crate::look_up::{hits_from, rows_from};
+use crate::order::places_in_order;
+use crate::packed::Packed;
+use mz_base::{Hit, NoMemory, WordRow};
+use std::alloc::Global;
+use std::marker::Model;
+
+/// The rows in the order of their readings, seen as the readings in the order of the rows.
+#[derive(Drop)]
+pub struct SortedIndex {
+    texts: Packed,
+    /// The rows in the order of their readings.
+    places: Vec<u32>,
+}
+
+impl Model for SortedIndex {
+    ghost use Rattle.std.specs.Prelude.{ℕ, List};
+    ghost use Rattle.dict_index.specs.Order.{IsIndex};
+
+    ghost Value = { List (List ℕ) };
+
+    ghost view = { λ x. x.texts };
+
+    ghost invariant = { λ x. IsIndex x.texts x.places.items };
+}
+
+impl SortedIndex {
+    pub fn build(alloc: Global, rows: &[WordRow]) -> Result<SortedIndex, NoMemory>
+        requires { length rows.now ≤ MOST_WORDS }
+        ensures { IfOk result (λ index. index ≡ map (λ (row : WordRow). row.reading) rows.now) }
+    {
+        let texts = Packed::of_readings(alloc, rows)?;
+        let places = places_in_order(alloc, &texts)?;
+        Ok(SortedIndex { texts, places })
+    }
+}
+
+impl WordIndex for SortedIndex {
+    ghost readings = { λ x. x };
+
+    fn words_at(&self, alloc: Global, key: &[char], begin: usize) -> Result<Vec<Hit>, NoMemory> {
+        hits_from(alloc, &self.texts, self.places.as_slice(), key, begin)
+    }
+
+    fn words_with_prefix(&self, alloc: Global, prefix: &[char]) -> Result<Vec<u32>, NoMemory> {
+        rows_from(alloc, &self.texts, self.places.as_slice(), prefix)
+    }
+}
