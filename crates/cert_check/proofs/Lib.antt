@@ -3,3 +3,4 @@ pub mod WalkLemmas
 pub mod TargetLemmas
 pub mod ClaimLemmas
 pub mod LatticeFacts
+pub mod SmallSet

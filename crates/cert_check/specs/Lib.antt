@@ -1,3 +1,4 @@
 pub mod Claims
 pub mod Edges
 pub mod Walks
+pub mod SmallSet

@@ -10,3 +10,6 @@ mod verdict;
 mod walk;
 
 pub use verdict::check;
+
+#[cfg(test)]
+mod tests;
