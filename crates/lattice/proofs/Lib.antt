@@ -1,0 +1,3 @@
+pub mod EndOrder
+pub mod PlaceLemmas
+pub mod RangeLemmas

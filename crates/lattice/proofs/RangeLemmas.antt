@@ -1,0 +1,21 @@
+-- Ranges, taken apart at their ends.
+use Rattle.std.proofs.Common.{◌≡◌, refl, sym, ap, ◌∙◌, ℕ, zero, suc, ◌+◌, ◌-◌, ◌<◌, List, [], ◌∷◌, ◌++◌, arith, add-one, add-zero}
+use Rattle.std.specs.List.{range_with_len}
+
+-- one number more at the end
+pub range_more : (a n : ℕ) → range_with_len a (n + 1) ≡ range_with_len a n ++ (a + n) ∷ []
+range_more a zero = ap (λ x. x ∷ []) (sym (add-zero a))
+range_more a (suc n) =
+    let count : suc n + 1 ≡ suc (n + 1) = omega arith in
+    let last : (a + 1) + n ≡ a + suc n = omega arith in
+    ap (range_with_len a) count ∙ ap (λ xs. a ∷ xs) (range_more (a + 1) n ∙ ap (λ x. range_with_len (a + 1) n ++ x ∷ []) last)
+
+-- from 0 on
+pub range_grows : (n : ℕ) → range_with_len 0 (n + 1) ≡ range_with_len 0 n ++ n ∷ []
+range_grows n = range_more 0 n ∙ ap (λ x. range_with_len 0 n ++ x ∷ []) (omega arith)
+
+-- the first number, and those that are left
+pub range_step : (a end : ℕ) → a < end → range_with_len a (end - a) ≡ a ∷ range_with_len (a + 1) (end - (a + 1))
+range_step a end below =
+    let count : end - a ≡ suc (end - (a + 1)) = omega arith in
+    ap (range_with_len a) count

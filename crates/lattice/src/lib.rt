@@ -1,0 +1,8 @@
+//! The lattice of a key: all entries of its parts, and their order by end. Start at [`build`]; [`value_of`] reads an
+//! entry. What an entry and a well-formed lattice are: `conversion_meaning`, specs/Entries.antt and Lattices.antt.
+#![tactic(auto)]
+
+mod by_end;
+mod run;
+mod sources;
+
