@@ -1,3 +1,6 @@
 pub mod EndOrder
+pub mod EntrySteps
+pub mod GroupLemmas
+pub mod HitLemmas
 pub mod PlaceLemmas
 pub mod RangeLemmas

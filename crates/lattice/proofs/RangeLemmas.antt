@@ -1,6 +1,6 @@
 -- Ranges, taken apart at their ends.
-use Rattle.std.proofs.Common.{◌≡◌, refl, sym, ap, ◌∙◌, ℕ, zero, suc, ◌+◌, ◌-◌, ◌<◌, List, [], ◌∷◌, ◌++◌, arith, add-one, add-zero}
-use Rattle.std.specs.List.{range_with_len}
+use Rattle.std.proofs.Common.{◌≡◌, refl, sym, ap, ◌∙◌, ℕ, zero, suc, ◌+◌, ◌-◌, ◌<◌, ◌≤◌, List, [], ◌∷◌, ◌++◌, append_assoc, append-nil, arith, add-one, add-zero}
+use Rattle.std.specs.List.{flat_map, range_with_len}
 
 -- one number more at the end
 pub range_more : (a n : ℕ) → range_with_len a (n + 1) ≡ range_with_len a n ++ (a + n) ∷ []
@@ -19,3 +19,15 @@ pub range_step : (a end : ℕ) → a < end → range_with_len a (end - a) ≡ a 
 range_step a end below =
     let count : end - a ≡ suc (end - (a + 1)) = omega arith in
     ap (range_with_len a) count
+
+-- a step of a loop over a range: what was added, and then what the numbers that are left give, is what all give
+pub flat_map_step : {X : Type 0} (f : ℕ → List X) (out all : List X) (a end : ℕ) → a < end → out ++ flat_map f (range_with_len a (end - a)) ≡ all → (out ++ f a) ++ flat_map f (range_with_len (a + 1) (end - (a + 1))) ≡ all
+flat_map_step f out all a end below before =
+    let rest = flat_map f (range_with_len (a + 1) (end - (a + 1))) in
+    append_assoc out (f a) rest ∙ ap (λ ns. out ++ flat_map f ns) (sym (range_step a end below)) ∙ before
+
+-- the end of such a loop
+pub flat_map_end : {X : Type 0} (f : ℕ → List X) (out all : List X) (a end : ℕ) → end ≤ a → out ++ flat_map f (range_with_len a (end - a)) ≡ all → out ≡ all
+flat_map_end f out all a end over before =
+    let count : end - a ≡ 0 = omega arith in
+    sym (append-nil out) ∙ ap (λ n. out ++ flat_map f (range_with_len a n)) (sym count) ∙ before

@@ -3,6 +3,9 @@
 #![tactic(auto)]
 
 mod by_end;
+mod entries;
+mod made;
 mod run;
 mod sources;
 
+pub use made::build;
