@@ -1,7 +1,6 @@
 -- The entries of a part, where a bound cuts it and where none does.
-use Rattle.std.proofs.Common.{◌≡◌, refl, ℕ, Bool, true, false, List, [], ◌++◌}
+use Rattle.std.proofs.Common.{◌≡◌, refl, ℕ, true, false, List, [], ◌++◌}
 use Rattle.mz_base.specs.Data.{DataLists}
-use Rattle.mz_base.specs.declared.lattice.Entry.{Entry}
 use Rattle.mz_base.specs.declared.user.UserRow.{UserRow}
 use Rattle.conversion_meaning.specs.Entries.{char_entries, entries_in, is_cut, run_entries, user_entries, word_entries}
 

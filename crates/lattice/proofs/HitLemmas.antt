@@ -1,5 +1,5 @@
 -- Hits by end: those of one end stand first among those that are left.
-use Rattle.std.proofs.Common.{◌≡◌, refl, sym, ap, ◌∙◌, ℕ, suc, ◌+◌, ◌-◌, ◌<◌, Bool, true, false, eqb, inl, inr, List, [], ◌∷◌, ◌++◌, map, length, take, drop, arith, eq-eqb}
+use Rattle.std.proofs.Common.{◌≡◌, refl, sym, ap, ◌∙◌, ℕ, ◌+◌, ◌-◌, ◌<◌, Bool, true, false, eqb, inl, inr, List, [], ◌∷◌, ◌++◌, map, length, take, drop, arith, eq-eqb}
 use Rattle.std.specs.Prelude.{slice_range}
 use Rattle.std.specs.List.{flat_map, prefix_len, range_with_len, take_while}
 use Rattle.std.proofs.lemmas.Bool.Decides.{nat_tests}

@@ -1,5 +1,5 @@
 -- The rows that a look-up gives are there.
-use Rattle.std.proofs.Common.{◌≡◌, refl, subst, sym, ap, ℕ, ◌<◌, List, [], length, get_or, arith, Bool}
+use Rattle.std.proofs.Common.{◌≡◌, subst, ap, ℕ, ◌<◌, List, [], length, get_or, arith, Bool}
 use Rattle.std.specs.List.{All, range_with_len}
 use Rattle.std.specs.Prelude.{slice_range}
 use Rattle.std.proofs.lemmas.List.{length-map}

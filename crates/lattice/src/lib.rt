@@ -7,5 +7,7 @@ mod entries;
 mod made;
 mod run;
 mod sources;
+mod value;
 
 pub use made::build;
+pub use value::value_of;

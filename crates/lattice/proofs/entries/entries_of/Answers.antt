@@ -1,4 +1,4 @@
-use Rattle.std.proofs.Common.{ap, ◌∙◌, ◌≡◌, ◌+◌, ◌++◌, ◌-◌, length}
+use Rattle.std.proofs.Common.{ap, ◌∙◌, ◌+◌, ◌++◌, ◌-◌, length}
 use Rattle.std.specs.List.{flat_map, range_with_len}
 use Rattle.conversion_meaning.specs.Entries.{entries, entries_from}
 use Rattle.lattice.proofs.RangeLemmas.{flat_map_step}

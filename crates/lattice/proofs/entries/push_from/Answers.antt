@@ -1,4 +1,4 @@
-use Rattle.std.proofs.Common.{rules, Vec, Global, ap, sym, ◌∙◌, ◌≡◌, ℕ, ◌+◌, ◌-◌, ◌++◌, Bool, true, false, List, length, arith, append-nil}
+use Rattle.std.proofs.Common.{rules, Vec, Global, ap, sym, ◌∙◌, ◌≡◌, ◌+◌, ◌-◌, ◌++◌, true, false, List, length, arith, append-nil}
 use Rattle.std.specs.List.{flat_map, range_with_len}
 use Rattle.mz_base.specs.Data.{hits_at, hits_to, readings}
 use Rattle.mz_base.specs.declared.lattice.Entry.{Entry}

@@ -1,4 +1,4 @@
-use Rattle.std.proofs.Common.{rules, ap, ◌∙◌, ◌≤◌, ◌<◌, length, arith}
+use Rattle.std.proofs.Common.{rules, ap, ◌∙◌, length, arith}
 use Rattle.mz_base.specs.declared.lattice.Lattice.{Lattice}
 use Rattle.conversion_meaning.proofs.Counts.{entries-few}
 use Rattle.conversion_meaning.proofs.EntryLemmas.{IsWellFormed-from_entries}
