@@ -14,7 +14,7 @@ use Rattle.mz_base.specs.declared.lattice.Source.{Source}
 use Rattle.mz_base.specs.declared.lattice.Source.TheVariants.{User, Char, Run}
 use Rattle.mz_base.specs.declared.user.UserRow.{UserRow}
 use Rattle.conversion_meaning.specs.Entries.{suppressed, entry_of, user_entry, word_entry, class_at, node, is_run, user_entries, word_entries, char_entries, run_entries, is_cut, entries_in, entries_from, entries}
-use Rattle.conversion_meaning.specs.Lattices.{IsKey, AreBounds, IsEntry, AreInOrder, HasCharacter, IsByEnd, IsWellFormed, no_entry}
+use Rattle.conversion_meaning.specs.Lattices.{IsEntry, AreInOrder, HasCharacter, IsLatticeOf, IsWellFormed, no_entry}
 use Rattle.conversion_meaning.proofs.Lists.{Among, Among-append_left, Among-append_right, Among-append_cases, from_map, from_filter, from_filter_map, Among-flat_map, from_flat_map, Among-range, from_range, place_of, All-from_among, Rises, Rises-all, Rises-flat_map, AllPairs-from_rises}
 
 -- an entry of this range, with ids that there are and a cost
@@ -172,14 +172,14 @@ module _ (d : DataLists) (sound : AreDataSound d) (rows : List UserRow) (key bou
       (r.0, r.1, ap (λ (e : Entry). e.begin) is, ap (λ (e : Entry). e.end) is)
 
 -- the entries of a key make a well-formed lattice
-pub IsWellFormed-from_entries : (d : DataLists) (rows : List UserRow) (l : Lattice) → AreDataSound d → IsKey l.key → AreBounds l.key l.bounds → l.entries ≡ entries d rows l.key l.bounds → IsByEnd l.entries l.by_end → IsWellFormed d l
-IsWellFormed-from_entries d rows l sound key bounds are by_end =
+pub IsWellFormed-from_entries : (d : DataLists) (rows : List UserRow) (l : Lattice) → AreDataSound d → IsLatticeOf d rows l → IsWellFormed d l
+IsWellFormed-from_entries d rows l sound is =
     let es = entries d rows l.key l.bounds in
     record {
-      key = key;
-      bounds = bounds;
-      entries = subst (λ (xs : List Entry). All (IsEntry d l.key l.bounds) xs) (sym are) (All-from_among (IsEntry d l.key l.bounds) es (IsEntry-entries d sound rows l.key l.bounds));
-      rising = subst (λ (xs : List Entry). AllPairs AreInOrder xs) (sym are) (AllPairs-from_rises AreInOrder es (Rises-entries d sound rows l.key l.bounds));
-      characters = λ position inside. subst (λ (xs : List Entry). HasCharacter xs position) (sym are) (HasCharacter-entries d sound rows l.key l.bounds position inside);
-      by_end = by_end;
+      key = is.key;
+      bounds = is.bounds;
+      entries = subst (λ (xs : List Entry). All (IsEntry d l.key l.bounds) xs) (sym is.entries_are) (All-from_among (IsEntry d l.key l.bounds) es (IsEntry-entries d sound rows l.key l.bounds));
+      rising = subst (λ (xs : List Entry). AllPairs AreInOrder xs) (sym is.entries_are) (AllPairs-from_rises AreInOrder es (Rises-entries d sound rows l.key l.bounds));
+      characters = λ position inside. subst (λ (xs : List Entry). HasCharacter xs position) (sym is.entries_are) (HasCharacter-entries d sound rows l.key l.bounds position inside);
+      by_end = is.by_end;
     }

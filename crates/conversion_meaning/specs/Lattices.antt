@@ -6,7 +6,8 @@ use Rattle.mz_base.specs.declared.lattice.TheConstants.{MOST_KEY}
 use Rattle.mz_base.specs.declared.lattice.Entry.{Entry}
 use Rattle.mz_base.specs.declared.lattice.Lattice.{Lattice}
 use Rattle.mz_base.specs.declared.lattice.Source.TheVariants.{User}
-use Rattle.conversion_meaning.specs.Entries.{is_cut}
+use Rattle.mz_base.specs.declared.user.UserRow.{UserRow}
+use Rattle.conversion_meaning.specs.Entries.{is_cut, entries}
 
 abbrev pub no_entry : Entry
 no_entry = record { begin = 0; end = 0; lid = 0; rid = 0; cost = pos 0; source = User 0 }
@@ -63,6 +64,13 @@ pub record IsWellFormed (d : DataLists) (l : Lattice) : Type 0 where
   pub entries : All (IsEntry d l.key l.bounds) l.entries
   pub rising : AllPairs AreInOrder l.entries
   pub characters : (position : ℕ) → position < length l.key → HasCharacter l.entries position
+  pub by_end : IsByEnd l.entries l.by_end
+
+-- the lattice of its key and bounds, for a data set and a user's rows
+pub record IsLatticeOf (d : DataLists) (rows : List UserRow) (l : Lattice) : Type 0 where
+  pub key : IsKey l.key
+  pub bounds : AreBounds l.key l.bounds
+  pub entries_are : l.entries ≡ entries d rows l.key l.bounds
   pub by_end : IsByEnd l.entries l.by_end
 
 -- the place in the order of ends before which entries end before this position, and from which on they do not

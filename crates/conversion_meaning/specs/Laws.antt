@@ -12,7 +12,7 @@ use Rattle.conversion_meaning.specs.Best.{IsBest}
 use Rattle.conversion_meaning.specs.Bounds.{IsWithin, most_entries, most_step}
 use Rattle.conversion_meaning.specs.Certificates.{Claim, IsCertificate}
 use Rattle.conversion_meaning.specs.Entries.{entries}
-use Rattle.conversion_meaning.specs.Lattices.{entry, IsKey, AreBounds, IsByEnd, IsCursor, IsWellFormed}
+use Rattle.conversion_meaning.specs.Lattices.{entry, IsKey, IsByEnd, IsCursor, IsLatticeOf, IsWellFormed}
 use Rattle.conversion_meaning.specs.Order.{IsBefore}
 use Rattle.conversion_meaning.specs.Paths.{IsPathOver, IsSpan, path_cost, whole}
 use Rattle.conversion_meaning.specs.Potentials.{IsLeastCost, AreLeastCosts, ordinals_in}
@@ -46,7 +46,7 @@ BestIsOne =
 -- the entries of a key make a well-formed lattice
 abbrev pub EntriesAreWellFormed : Type 0
 EntriesAreWellFormed =
-    (d : DataLists) (rows : List UserRow) (l : Lattice) → AreDataSound d → IsKey l.key → AreBounds l.key l.bounds → l.entries ≡ entries d rows l.key l.bounds → IsByEnd l.entries l.by_end → IsWellFormed d l
+    (d : DataLists) (rows : List UserRow) (l : Lattice) → AreDataSound d → IsLatticeOf d rows l → IsWellFormed d l
 
 -- least costs, the best path and its cost are a certificate
 abbrev pub LeastCostsCertify : Type 0
