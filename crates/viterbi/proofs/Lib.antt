@@ -1,3 +1,4 @@
 pub mod BackLemmas
 pub mod ArrivalLemmas
 pub mod TableLemmas
+pub mod SolvedLemmas

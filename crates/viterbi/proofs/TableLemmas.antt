@@ -36,7 +36,7 @@ IsTrail-grow table r last (o ∷ back) trail =
     (trail.0, omega (arith, trail.1, length-append table (r ∷ [])), subst (λ (x : Reached). IsTrail (table ++ r ∷ []) x.before back) (sym e) rest)
 
 -- a trail is one list
-IsTrail-one : (table : List Reached) (last : Option ℕ) (p q : List ℕ) → IsTrail table last p → IsTrail table last q → p ≡ q
+pub IsTrail-one : (table : List Reached) (last : Option ℕ) (p q : List ℕ) → IsTrail table last p → IsTrail table last q → p ≡ q
 IsTrail-one table last [] [] a b = refl
 IsTrail-one table last [] (x ∷ q) a b = let e : None ≡ Some x = sym a ∙ b.0 in cc
 IsTrail-one table last (o ∷ p) [] a b = let e : None ≡ Some o = sym b ∙ a.0 in cc
@@ -241,3 +241,22 @@ module _ (d : DataLists) (l : Lattice) (span : Span) (well : IsWellFormed d l) (
       by_place false outside =
           let same = out outside in
           IsTable-push d l.entries span table r is row (subst (λ x. IsWithin most_reached x.cost) (sym same) (record { above = omega (arith, ints); below = omega (arith, ints) })) (λ before known. let f : None ≡ Some before = ap (λ (x : Reached). x.before) (sym same) ∙ known in cc)
+
+  row_next : AreDataSound d → (next : Entry) → length table < length l.entries → next ≡ entry l.entries (length table) → (r : Reached) → (is_in span next ≡ true → IsReached d l.entries span table next.begin next.lid next.cost r) → (is_in span next ≡ false → r ≡ no_reached) → IsTable d l.entries span (table ++ r ∷ [])
+  row_next sound next room same r row out =
+      IsTable-row sound r room (λ inside. subst (λ (e : Entry). IsReached d l.entries span table e.begin e.lid e.cost r) same (row (ap (is_in span) same ∙ inside))) (λ outside. out (ap (is_in span) same ∙ outside))
+
+  -- the table with the row of an entry of the span
+  pub IsTable-inside : AreDataSound d → (next : Entry) → length table < length l.entries → next ≡ entry l.entries (length table) → is_in span next ≡ true → (r : Reached) → IsReached d l.entries span table next.begin next.lid next.cost r → IsTable d l.entries span (table ++ r ∷ [])
+  IsTable-inside sound next room same inside r row =
+      row_next sound next room same r (λ _. row) (λ outside. let f : true ≡ false = sym inside ∙ outside in cc)
+
+  -- the table with the row of another entry
+  pub IsTable-outside : AreDataSound d → (next : Entry) → length table < length l.entries → next ≡ entry l.entries (length table) → is_in span next ≡ false → IsTable d l.entries span (table ++ no_reached ∷ [])
+  IsTable-outside sound next room same outside =
+      row_next sound next room same no_reached (λ inside. let f : true ≡ false = sym inside ∙ outside in cc) (λ _. refl)
+
+  -- what ends where the next entry begins has its row already
+  pub sources_inside : (next : Entry) → length table < length l.entries → next ≡ entry l.entries (length table) → (o : ℕ) → o < length l.entries → (entry l.entries o).end ≡ next.begin → o < length table
+  sources_inside next room same o inside ends =
+      source_first d l o (length table) well inside room (ends ∙ ap (λ (e : Entry). e.begin) same)

@@ -38,3 +38,8 @@ pub record IsTable (d : DataLists) (es : List Entry) (span : Span) (table : List
   pub rows : (o : ℕ) → o < length table → is_in span (entry es o) ≡ true → IsReached d es span table (entry es o).begin (entry es o).lid (entry es o).cost (reached table o)
   pub small : (o : ℕ) → o < length table → IsWithin most_reached (reached table o).cost
   pub falls : (o before : ℕ) → o < length table → (reached table o).before ≡ Some before → before < o
+
+-- the table of all entries
+pub record IsWholeTable (d : DataLists) (es : List Entry) (span : Span) (table : List Reached) : Type 0 where
+  pub count : length table ≡ length es
+  pub is : IsTable d es span table

@@ -3,7 +3,7 @@
 #![tactic(auto)]
 
 mod arrivals;
+mod solver;
 mod table;
 
-pub use arrivals::{Arrival, Choice, arrivals_at, reach};
-pub use table::{Reached, Target};
+pub use solver::solve;

@@ -1,0 +1,50 @@
+use Rattle.std.proofs.Common.{◌≡◌, refl, sym, ap, ◌∙◌, subst, ℕ, List, length, map, Option, arith, w64, to_z, of_z}
+use Rattle.std.specs.Prelude.{ℤ, pos, reverse}
+use Rattle.std.proofs.lemmas.Int.{ints}
+use Rattle.mz_base.specs.declared.lattice.Entry.{Entry}
+use Rattle.conversion_meaning.specs.Best.{IsBest}
+use Rattle.conversion_meaning.specs.Paths.{path_cost}
+use Rattle.conversion_meaning.specs.Potentials.{AreLeastCosts, ordinals_in}
+use Rattle.viterbi.specs.declared.table.Reached.{Reached}
+use Rattle.viterbi.specs.Table.{IsReached, IsTrail, reached}
+use Rattle.viterbi.proofs.SolvedLemmas.{IfSome-last, AreLeastCosts-table, IsBest-reached, total_is, IsWithin-total, IsCertificate-reached}
+use Rattle.viterbi.proofs.solver.solve.Goals as goal
+
+pub trail-requires-clause-last : goal.trail-requires-clause-last
+trail-requires-clause-last g c =
+    let is = c.in_ok-last.ensures in
+    rw c.as_slice-2.ensures.value (rw c.as_slice.ensures.value at (IfSome-last c.as_slice.result.now c.in_ok-last.last.before is.back is.trail))
+
+pub returns-clause-best : goal.returns-clause-best
+returns-clause-best g c =
+    let d = g.D.DataSet.lists c.args.set.now in
+    let l = c.args.lattice.now in
+    let span = c.args.span in
+    let table = c.in_ok-table.table.items in
+    let r = c.in_ok-last.last in
+    let is : IsReached d l.entries span table span.end span.right (pos 0) r = subst (λ t. IsReached d l.entries span t span.end span.right (pos 0) r) c.as_slice.ensures.value c.in_ok-last.ensures in
+    let trail = subst (λ t. (back : List ℕ) × IsTrail t r.before back × (c.in_ok-path.path.items ≡ reverse back)) c.as_slice-2.ensures.value c.in_ok-path.ensures in
+    subst (λ p. IsBest d l.entries span p) (sym c.from_vec-2.ensures) (IsBest-reached d l span table c.in_ok-table.ensures r is c.in_ok-path.path.items trail)
+
+pub returns-clause-total : goal.returns-clause-total
+returns-clause-total g c =
+    let d = g.D.DataSet.lists c.args.set.now in
+    let l = c.args.lattice.now in
+    let span = c.args.span in
+    let table = c.in_ok-table.table.items in
+    let r = c.in_ok-last.last in
+    let is : IsReached d l.entries span table span.end span.right (pos 0) r = subst (λ t. IsReached d l.entries span t span.end span.right (pos 0) r) c.as_slice.ensures.value c.in_ok-last.ensures in
+    let trail = subst (λ t. (back : List ℕ) × IsTrail t r.before back × (c.in_ok-path.path.items ≡ reverse back)) c.as_slice-2.ensures.value c.in_ok-path.ensures in
+    ?
+
+pub returns-clause-potentials : goal.returns-clause-potentials
+returns-clause-potentials g c =
+    let d = g.D.DataSet.lists c.args.set.now in
+    let l = c.args.lattice.now in
+    let span = c.args.span in
+    let table = c.in_ok-table.table.items in
+    let Costs : List Reached → List Entry → Type 0 = λ t es. c.in_ok-costs.costs.items ≡ map (λ o. (reached t o).cost) (ordinals_in es span) in
+    ?
+
+pub returns-clause-certified : goal.returns-clause-certified
+returns-clause-certified g c = ?
