@@ -67,11 +67,11 @@ IfSome-last table (Some o) (x ∷ back) trail =
     let low = trail.1 in
     omega (arith, same, low)
 
-module _ (d : DataLists) (l : Lattice) (span : Span) (table : List Reached) (whole : IsWholeTable d l.entries span table) where
+module _ (d : DataLists) (l : Lattice) (span : Span) (table : List Reached) where
   -- the table's costs are the least
-  pub AreLeastCosts-table : AreLeastCosts d l.entries span (map (λ o. (reached table o).cost) (ordinals_in l.entries span))
+  pub AreLeastCosts-table : IsWholeTable d l.entries span table → AreLeastCosts d l.entries span (map (λ o. (reached table o).cost) (ordinals_in l.entries span))
   unfolding ordinals_in
-  AreLeastCosts-table = record { count = length-map os cost; each = each }
+  AreLeastCosts-table whole = record { count = length-map os cost; each = each }
     where
       os : List ℕ
       os = ordinals_in l.entries span
@@ -111,6 +111,6 @@ module _ (d : DataLists) (l : Lattice) (span : Span) (table : List Reached) (who
     IsWithin-total sound well spans =
         subst (λ c. IsWithin (most_step * (span.end - span.begin) + 1000000) c) (sym total_is) (IsWithin-path_cost d l span path sound well spans IsBest-reached.joined)
 
-    pub IsCertificate-reached : IsSpan d l span → (potentials : List ℤ) → potentials ≡ map (λ o. (reached table o).cost) (ordinals_in l.entries span) → (total : ℤ) → total ≡ r.cost → IsCertificate (record { lists = d; entries = l.entries; span = span; path = path; potentials = potentials; total = total })
-    IsCertificate-reached spans potentials are total same =
-        IsCertificate-from_least (record { lists = d; entries = l.entries; span = span; path = path; potentials = potentials; total = total }) spans.forward (subst (λ ps. AreLeastCosts d l.entries span ps) (sym are) AreLeastCosts-table) IsBest-reached (same ∙ total_is)
+    pub IsCertificate-reached : IsWholeTable d l.entries span table → IsSpan d l span → (potentials : List ℤ) → potentials ≡ map (λ o. (reached table o).cost) (ordinals_in l.entries span) → (total : ℤ) → total ≡ r.cost → IsCertificate (record { lists = d; entries = l.entries; span = span; path = path; potentials = potentials; total = total })
+    IsCertificate-reached whole spans potentials are total same =
+        IsCertificate-from_least (record { lists = d; entries = l.entries; span = span; path = path; potentials = potentials; total = total }) spans.forward (subst (λ ps. AreLeastCosts d l.entries span ps) (sym are) (AreLeastCosts-table whole)) IsBest-reached (same ∙ total_is)
