@@ -1,21 +1,20 @@
 -- What leads to a position, read backwards, and paths, read forwards, are the same.
 use Rattle.std.proofs.Common.{◌≡◌, refl, sym, ap, ◌∙◌, subst, ℕ, ◌<◌, ◌≤◌, ◌⊎◌, inl, inr, List, [], ◌∷◌, ◌++◌, length, arith}
 use Rattle.std.specs.Prelude.{◌≢◌, ℤ, ◌+ℤ◌, ◌<ℤ◌, ◌≤ℤ◌, reverse}
-use Rattle.std.specs.declared.cmp.Ordering.{Ordering}
-use Rattle.std.specs.declared.cmp.Ordering.TheVariants.{Less, Equal, Greater}
+use Rattle.std.specs.declared.cmp.Ordering.TheVariants.{Less, Equal}
 use Rattle.std.specs.Cmp.Lexicographic.{slice_cmp}
 use Rattle.std.specs.Cmp.{nat_cmp_is}
 use Rattle.std.specs.Ordering.{nat_cmp}
 use Rattle.std.proofs.lemmas.Grind.{reverse_onto}
 use Rattle.std.proofs.lemmas.Int.{ints}
 use Rattle.std.proofs.lemmas.List.{reverse-reverse}
-use Rattle.mz_base.specs.Data.{DataLists, connection}
+use Rattle.mz_base.specs.Data.{DataLists}
 use Rattle.mz_base.specs.declared.lattice.Entry.{Entry}
 use Rattle.mz_base.specs.declared.lattice.Span.{Span}
 use Rattle.conversion_meaning.specs.Best.{IsBest}
 use Rattle.conversion_meaning.specs.Lattices.{entry}
-use Rattle.conversion_meaning.specs.Order.{IsBefore, IsLowerFromLast}
-use Rattle.conversion_meaning.specs.Paths.{IsPath, IsPathOver, cost_between, path_cost}
+use Rattle.conversion_meaning.specs.Order.{IsBefore}
+use Rattle.conversion_meaning.specs.Paths.{IsPath, cost_between, path_cost}
 use Rattle.conversion_meaning.specs.Potentials.{IsLeastCost, cost_to}
 use Rattle.conversion_meaning.proofs.Duality.{AreForward}
 use Rattle.conversion_meaning.proofs.LeastCosts.{IsPath-push, cost_between-push}
@@ -142,9 +141,9 @@ module _ (d : DataLists) (es : List Entry) (span : Span) where
   -- read forwards, the first to an entry has its least cost
   pub IsLeastCost-from_first : (o : ℕ) (back : List ℕ) (cost : ℤ) → IsFirstBack d es span (entry es o).begin (entry es o).lid back → cost ≡ (cost_back d es span.left (entry es o).lid back +ℤ (entry es o).cost) → IsLeastCost d es span o cost
   IsLeastCost-from_first o back cost first cost_is = record {
-      reached = (reverse back, IsPath-reverse es span.begin (entry es o).begin back first.joined, (let e = cost_between-reverse d es span.left (entry es o).lid back in omega (arith, ints, e, cost_is)));
-      least = λ before joined. least_of before (cost_back-reverse d es span.left (entry es o).lid before) (first.first (reverse before) (IsWayBack-reverse es span.begin (entry es o).begin before joined));
-    }
+    reached = (reverse back, IsPath-reverse es span.begin (entry es o).begin back first.joined, (let e = cost_between-reverse d es span.left (entry es o).lid back in omega (arith, ints, e, cost_is)));
+    least = λ before joined. least_of before (cost_back-reverse d es span.left (entry es o).lid before) (first.first (reverse before) (IsWayBack-reverse es span.begin (entry es o).begin before joined));
+  }
     where
       least_of : (before : List ℕ) → cost_back d es span.left (entry es o).lid (reverse before) ≡ cost_between d es span.left (entry es o).lid before → IsNotAfter d es span.left (entry es o).lid back (reverse before) → cost ≤ℤ cost_to d es span before o
       least_of before e (inl less) = omega (arith, ints, e, cost_is)
@@ -153,9 +152,9 @@ module _ (d : DataLists) (es : List Entry) (span : Span) where
   -- and the first to the span's end is its best path
   pub IsBest-from_first : (back : List ℕ) → IsFirstBack d es span span.end span.right back → IsBest d es span (reverse back)
   IsBest-from_first back first = record {
-      joined = IsPath-reverse es span.begin span.end back first.joined;
-      first = λ other joined differ. before other differ (cost_back-reverse d es span.left span.right other) (first.first (reverse other) (IsWayBack-reverse es span.begin span.end other joined));
-    }
+    joined = IsPath-reverse es span.begin span.end back first.joined;
+    first = λ other joined differ. before other differ (cost_back-reverse d es span.left span.right other) (first.first (reverse other) (IsWayBack-reverse es span.begin span.end other joined));
+  }
     where
       mine : path_cost d es span (reverse back) ≡ cost_back d es span.left span.right back
       mine = cost_between-reverse d es span.left span.right back

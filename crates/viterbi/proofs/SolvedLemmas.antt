@@ -1,25 +1,23 @@
 -- What a whole table says: the best path, its cost, and the least costs.
-use Rattle.std.proofs.Common.{◌≡◌, refl, sym, ap, ◌∙◌, subst, ℕ, zero, suc, ◌+◌, ◌-◌, ◌*◌, ◌<◌, ◌≤◌, Bool, true, false, cond, List, [], ◌∷◌, ◌++◌, Option, Some, None, length, map, get_or, arith, append_assoc, append-nil}
-use Rattle.std.specs.Prelude.{ℤ, pos, ◌+ℤ◌, IfSome, reverse, slice_index, slice_index_or}
+use Rattle.std.proofs.Common.{◌≡◌, refl, sym, ap, ◌∙◌, subst, ℕ, suc, ◌+◌, ◌-◌, ◌*◌, ◌<◌, ◌≤◌, Bool, true, false, List, [], ◌∷◌, ◌++◌, Option, Some, None, length, map, arith, append_assoc, append-nil}
+use Rattle.std.specs.Prelude.{ℤ, pos, IfSome, reverse, slice_index, slice_index_or}
 use Rattle.std.specs.List.{filter, range_with_len}
 use Rattle.std.proofs.lemmas.Int.{ints}
 use Rattle.std.proofs.lemmas.List.{get_or-map, length-map}
 use Rattle.mz_base.specs.Data.{DataLists, AreDataSound}
-use Rattle.mz_base.specs.declared.lattice.Entry.{Entry}
 use Rattle.mz_base.specs.declared.lattice.Lattice.{Lattice}
 use Rattle.mz_base.specs.declared.lattice.Span.{Span}
 use Rattle.conversion_meaning.specs.Best.{IsBest}
 use Rattle.conversion_meaning.specs.Bounds.{IsWithin, most_step}
-use Rattle.conversion_meaning.specs.Certificates.{Claim, IsCertificate}
+use Rattle.conversion_meaning.specs.Certificates.{IsCertificate}
 use Rattle.conversion_meaning.specs.Lattices.{IsWellFormed, entry}
-use Rattle.conversion_meaning.specs.Paths.{IsPathOver, IsSpan, path_cost}
+use Rattle.conversion_meaning.specs.Paths.{IsSpan, path_cost}
 use Rattle.conversion_meaning.specs.Potentials.{IsLeastCost, AreLeastCosts, is_in, ordinals_in}
 use Rattle.conversion_meaning.proofs.CostBounds.{IsWithin-path_cost}
 use Rattle.conversion_meaning.proofs.LeastCosts.{IsCertificate-from_least}
 use Rattle.conversion_meaning.proofs.Lists.{Among-get_or, from_filter, from_range}
 use Rattle.viterbi.specs.declared.table.Reached.{Reached}
-use Rattle.viterbi.specs.Back.{cost_back}
-use Rattle.viterbi.specs.Table.{IsReached, IsTable, IsTrail, IsWholeTable, reached}
+use Rattle.viterbi.specs.Table.{IsReached, IsTrail, IsWholeTable, reached}
 use Rattle.viterbi.proofs.BackLemmas.{IsBest-from_first, IsLeastCost-from_first, cost_between-reverse}
 use Rattle.viterbi.proofs.TableLemmas.{IsTrail-one}
 

@@ -1,6 +1,6 @@
 -- The table grows row by row.
-use Rattle.std.proofs.Common.{◌≡◌, refl, sym, ap, ◌∙◌, subst, ℕ, ◌+◌, ◌*◌, ◌-◌, ◌<◌, ◌≤◌, ◌⊎◌, inl, inr, Bool, true, false, List, [], ◌∷◌, ◌++◌, Option, Some, None, length, get_or, arith, length-append}
-use Rattle.std.specs.Prelude.{◌≢◌, ℤ, pos, ◌+ℤ◌, ◌<ℤ◌, slice_index}
+use Rattle.std.proofs.Common.{◌≡◌, refl, sym, ap, ◌∙◌, subst, ℕ, ◌+◌, ◌-◌, ◌<◌, ◌≤◌, ◌⊎◌, inl, inr, Bool, true, false, List, [], ◌∷◌, ◌++◌, Option, Some, None, length, arith, length-append}
+use Rattle.std.specs.Prelude.{◌≢◌, ℤ, ◌+ℤ◌}
 use Rattle.std.proofs.Math.ListN.{get_or-append}
 use Rattle.std.proofs.lemmas.Bool.Decides.{nat_tests}
 use Rattle.std.proofs.lemmas.Int.{ints}
@@ -9,7 +9,7 @@ use Rattle.mz_base.specs.Data.{DataLists, AreDataSound, connection}
 use Rattle.mz_base.specs.declared.lattice.Entry.{Entry}
 use Rattle.mz_base.specs.declared.lattice.Lattice.{Lattice}
 use Rattle.mz_base.specs.declared.lattice.Span.{Span}
-use Rattle.conversion_meaning.specs.Bounds.{IsWithin, most_step}
+use Rattle.conversion_meaning.specs.Bounds.{IsWithin}
 use Rattle.conversion_meaning.specs.Lattices.{IsWellFormed, entry, no_entry}
 use Rattle.conversion_meaning.specs.Paths.{IsSpan}
 use Rattle.conversion_meaning.specs.Potentials.{is_in}
@@ -22,7 +22,7 @@ use Rattle.viterbi.specs.declared.arrivals.Choice.{Choice}
 use Rattle.viterbi.specs.declared.table.Reached.{Reached}
 use Rattle.viterbi.specs.declared.table.Target.{Target}
 use Rattle.viterbi.specs.Arrivals.{IsArrival, AreArrivals, AreSmall, IsUpTo, IsCheapest, IsChoice, arrival, after_choice, at_begin, choice_of}
-use Rattle.viterbi.specs.Back.{IsWayBack, IsFirstBack, cost_back}
+use Rattle.viterbi.specs.Back.{IsWayBack, cost_back}
 use Rattle.viterbi.specs.Table.{reached, no_reached, IsTrail, IsReached, IsTable, most_reached}
 use Rattle.viterbi.proofs.ArrivalLemmas.{each_push, last_or_before}
 use Rattle.viterbi.proofs.BackLemmas.{IsWayBack-forward, IsFirstBack-start, IsFirstBack-via, IsLeastCost-from_first, IsWay, IsUpToOver, IsBeaten}

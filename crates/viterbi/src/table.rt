@@ -119,8 +119,14 @@ pub fn trail(alloc: Global, table: &[Reached], last: Option<u32>) -> Result<Vec<
         path.push(ordinal)?;
         at = table[ordinal as usize].before;
     }
+    Ok(reversed(path))
+}
+
+fn reversed(mut path: Vec<u32>) -> Vec<u32>
+    ensures { result.items ≡ reverse path.items }
+{
     path.as_mut_slice().reverse();
-    Ok(path)
+    path
 }
 
 /// The costs of the entries of the span, by rising ordinal.

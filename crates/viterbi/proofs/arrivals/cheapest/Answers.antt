@@ -2,7 +2,7 @@ use Rattle.std.proofs.Common.{◌≡◌, ap, subst, ℤ, ◌+ℤ◌, arith, w64,
 use Rattle.std.proofs.lemmas.Int.{ints}
 use Rattle.mz_base.specs.Data.{connection}
 use Rattle.viterbi.specs.declared.arrivals.Choice.{Choice}
-use Rattle.viterbi.specs.Arrivals.{IsCheaper, choice_of, arrival}
+use Rattle.viterbi.specs.Arrivals.{IsCheaper, arrival}
 use Rattle.viterbi.proofs.ArrivalLemmas.{IsCheapest-more}
 use Rattle.viterbi.proofs.arrivals.cheapest.Goals as goal
 

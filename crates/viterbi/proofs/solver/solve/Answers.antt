@@ -1,9 +1,7 @@
-use Rattle.std.proofs.Common.{◌≡◌, refl, sym, ap, ◌∙◌, subst, ℕ, List, length, map, Option, arith, w64, to_z, of_z}
-use Rattle.std.specs.Prelude.{ℤ, pos, reverse}
+use Rattle.std.proofs.Common.{◌≡◌, sym, ◌∙◌, subst, ℕ, List, map, arith, w64, to_z, of_z}
+use Rattle.std.specs.Prelude.{pos, reverse}
 use Rattle.std.proofs.lemmas.Int.{ints}
 use Rattle.mz_base.specs.declared.lattice.Entry.{Entry}
-use Rattle.conversion_meaning.specs.Best.{IsBest}
-use Rattle.conversion_meaning.specs.Paths.{path_cost}
 use Rattle.conversion_meaning.specs.Potentials.{AreLeastCosts, ordinals_in}
 use Rattle.viterbi.specs.declared.table.Reached.{Reached}
 use Rattle.viterbi.specs.Table.{IsReached, IsTrail, reached}

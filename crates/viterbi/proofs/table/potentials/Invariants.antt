@@ -1,4 +1,4 @@
-use Rattle.std.proofs.Common.{◌≡◌, ℕ, ◌-◌, ◌++◌, map, length}
+use Rattle.std.proofs.Common.{◌≡◌, ◌-◌, ◌++◌, map, length}
 use Rattle.std.specs.List.{filter, range_with_len}
 use Rattle.conversion_meaning.specs.Lattices.{entry}
 use Rattle.conversion_meaning.specs.Potentials.{is_in}

@@ -1,4 +1,4 @@
-use Rattle.std.proofs.Common.{◌≡◌, sym, subst, length, List}
+use Rattle.std.proofs.Common.{◌≡◌, subst, length, List}
 use Rattle.std.specs.Prelude.{◌≢◌, Option}
 use Rattle.viterbi.specs.declared.arrivals.Arrival.{Arrival}
 use Rattle.viterbi.specs.declared.arrivals.Choice.{Choice}
