@@ -1,0 +1,4 @@
+pub mod BackLemmas
+pub mod ArrivalLemmas
+pub mod TableLemmas
+pub mod SolvedLemmas

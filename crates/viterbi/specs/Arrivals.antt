@@ -1,0 +1,71 @@
+-- The entries that end at a position, and the cheapest of them before an id.
+use Rattle.std.specs.Prelude.{◌≡◌, ℕ, ◌<◌, ◌≤◌, ℤ, pos, ◌+ℤ◌, ◌<ℤ◌, ◌⊎◌, List, length, slice_index_or, Option, Some, None}
+use Rattle.mz_base.specs.Data.{DataLists, connection}
+use Rattle.mz_base.specs.declared.lattice.Entry.{Entry}
+use Rattle.mz_base.specs.declared.lattice.Span.{Span}
+use Rattle.conversion_meaning.specs.Bounds.{IsWithin}
+use Rattle.conversion_meaning.specs.Lattices.{entry}
+use Rattle.viterbi.specs.declared.arrivals.Arrival.{Arrival}
+use Rattle.viterbi.specs.declared.arrivals.Choice.{Choice}
+use Rattle.viterbi.specs.declared.table.Reached.{Reached}
+use Rattle.viterbi.specs.declared.table.Target.{Target}
+use Rattle.viterbi.specs.Table.{reached, no_reached, most_reached}
+
+abbrev pub no_arrival : Arrival
+no_arrival = record { cost = pos 0; ordinal = 0; rid = 0 }
+
+abbrev pub arrival : List Arrival → ℕ → Arrival
+arrival xs k = slice_index_or xs k no_arrival
+
+-- an entry of the span that ends at this position, with its cost in the table
+pub record IsArrival (es : List Entry) (span : Span) (table : List Reached) (to : ℕ) (x : Arrival) : Type 0 where
+  pub inside : x.ordinal < length table
+  pub ends : (entry es x.ordinal).end ≡ to
+  pub begins : span.begin ≤ (entry es x.ordinal).begin
+  pub cost_is : x.cost ≡ (reached table x.ordinal).cost
+  pub rid_is : x.rid ≡ (entry es x.ordinal).rid
+
+-- all of them
+pub record AreArrivals (es : List Entry) (span : Span) (table : List Reached) (to : ℕ) (xs : List Arrival) : Type 0 where
+  pub each : (k : ℕ) → k < length xs → IsArrival es span table to (arrival xs k)
+  pub all : (o : ℕ) → o < length es → (entry es o).end ≡ to → span.begin ≤ (entry es o).begin → (k : ℕ) × (k < length xs) × ((arrival xs k).ordinal ≡ o)
+
+-- the right ids are there, and the costs are small
+pub record AreSmall (d : DataLists) (xs : List Arrival) : Type 0 where
+  pub ids : (k : ℕ) → k < length xs → (arrival xs k).rid < d.ids
+  pub costs : (k : ℕ) → k < length xs → IsWithin most_reached (arrival xs k).cost
+
+-- the choice of this arrival before this left id, with the cost of the connection
+abbrev pub choice_of : DataLists → ℕ → Arrival → Choice
+choice_of d lid x = record { cost = x.cost +ℤ connection d x.rid lid; ordinal = x.ordinal }
+
+-- it costs less, or as much and has no higher ordinal
+abbrev pub IsUpTo : Choice → Choice → Type 0
+IsUpTo choice other =
+    (choice.cost <ℤ other.cost) ⊎ ((choice.cost ≡ other.cost) × (choice.ordinal ≤ other.ordinal))
+
+-- one of the two, and up to the other
+abbrev pub IsCheaper : Option Choice → Choice → Choice → Type 0
+IsCheaper None other choice = choice ≡ other
+IsCheaper (Some best) other choice = ((choice ≡ best) × IsUpTo best other) ⊎ ((choice ≡ other) × IsUpTo other best)
+
+-- the one with the least cost before this left id, and of several the least ordinal
+pub record IsCheapest (d : DataLists) (xs : List Arrival) (lid most : ℕ) (choice : Choice) : Type 0 where
+  pub place : ℕ
+  pub inside : place < most
+  pub choice_is : choice ≡ choice_of d lid (arrival xs place)
+  pub least : (k : ℕ) → k < most → IsUpTo choice (choice_of d lid (arrival xs k))
+
+-- the choice among the first so many, none only where there are none
+abbrev pub IsChoice : DataLists → List Arrival → ℕ → ℕ → Option Choice → Type 0
+IsChoice d xs lid most None = most ≡ 0
+IsChoice d xs lid most (Some choice) = IsCheapest d xs lid most choice
+
+-- the choice, and the cost of the target itself
+abbrev pub after_choice : ℤ → Option Choice → Reached
+after_choice own None = no_reached
+after_choice own (Some choice) = record { cost = choice.cost +ℤ own; before = Some choice.ordinal }
+
+-- from the left id of the span at its begin
+abbrev pub at_begin : DataLists → Span → Target → Reached
+at_begin d span target = record { cost = connection d span.left target.lid +ℤ target.cost; before = None }

@@ -1,0 +1,3 @@
+pub mod Arrivals
+pub mod Back
+pub mod Table
