@@ -35,7 +35,7 @@ chars-of_spelling bytes letters (cs, (scalar, spelt)) is =
     ap chars (sym spelt) ∙ chars-encodes cs scalar ∙ encodes-same cs letters (spelt ∙ is)
 
 -- the spelling of the characters of a text is its bytes
-encodes-chars : (bytes : List ℕ) → IsUtf8 bytes → encode_utf8_all (chars bytes) ≡ bytes
+pub encodes-chars : (bytes : List ℕ) → IsUtf8 bytes → encode_utf8_all (chars bytes) ≡ bytes
 encodes-chars bytes (cs, (scalar, spelt)) =
     ap (λ bs. encode_utf8_all (chars bs)) (sym spelt) ∙ ap encode_utf8_all (chars-encodes cs scalar) ∙ spelt
 

@@ -2,3 +2,4 @@ pub mod Columns
 pub mod Reader
 pub mod Rows
 pub mod Tally
+pub mod Words

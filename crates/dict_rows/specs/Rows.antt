@@ -62,10 +62,14 @@ abbrev pub ranged : ℕ → ℕ → Option RowNumbers → Result RowNumbers Faul
 ranged ids number None = Err (Number number)
 ranged ids number (Some numbers) = if are_in_range ids numbers then Ok numbers else Err (Range number)
 
+-- a field without characters
+abbrev pub is_blank : List ℕ → Bool
+is_blank field = length (chars field) == 0
+
 -- the numbers of a row with a reading and a value
 abbrev pub numbers_in : ℕ → ℕ → RowFields → Result RowNumbers FaultKind
 numbers_in ids number row =
-    if (length row.reading == 0) || (length row.value == 0) then Err (Empty number) else ranged ids number (row_numbers row)
+    if is_blank row.reading || is_blank row.value then Err (Empty number) else ranged ids number (row_numbers row)
 
 abbrev pub within_limits : List WordRow → ℕ → RowFields → RowNumbers → Result (Option WordRow) FaultKind
 within_limits rows number row numbers =

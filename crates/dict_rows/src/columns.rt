@@ -2,7 +2,7 @@ ghost use Rattle.std.specs.Prelude.{◌≡◌, ◌≤◌, option_map, IfOk, IsTr
 ghost use Rattle.mz_base.specs.Answers.{Gives};
 ghost use Rattle.mz_base.specs.Lines.{fields_of};
 ghost use Rattle.dict_rows.specs.Columns.{row_of_columns, numbers_view};
-ghost use Rattle.dict_rows.specs.Rows.{row_fields, row_numbers, numbers_in, are_in_range, word_of};
+ghost use Rattle.dict_rows.specs.Rows.{row_fields, row_numbers, numbers_in, is_blank, are_in_range, word_of};
 
 use mz_base::{
     FaultKind, MOST_DIGITS, MOST_IDS, NoMemory, ReadError, Text, WordRow, cut_field, is_cost,
@@ -61,7 +61,7 @@ pub fn tested_numbers(ids: u32, line: u64, row: &Columns<'_>) -> Result<Numbers,
     ensures given { Gives numbers_view result (numbers_in ids line (row_of_columns row.now)) }
     ensures ranged { IfOk result (λ numbers. IsTrue (are_in_range ids (numbers_view numbers))) }
 {
-    if row.reading.is_empty() || row.value.is_empty() {
+    if is_blank(row.reading) || is_blank(row.value) {
         return Err(FaultKind::Empty(line).into());
     }
     match numbers_of(row) {
@@ -69,6 +69,12 @@ pub fn tested_numbers(ids: u32, line: u64, row: &Columns<'_>) -> Result<Numbers,
         Some(numbers) if are_in_range(ids, &numbers) => Ok(numbers),
         Some(_) => Err(FaultKind::Range(line).into()),
     }
+}
+
+fn is_blank(field: &str) -> bool
+    ensures { result ≡ is_blank field.now }
+{
+    field.is_empty()
 }
 
 fn are_in_range(ids: u32, numbers: &Numbers) -> bool

@@ -3,9 +3,11 @@
 #![tactic(auto)]
 
 mod columns;
+mod laws;
 mod reader;
 mod tally;
 
+pub use laws::rows_are_words;
 pub use reader::read;
 
 #[cfg(test)]

@@ -1,3 +1,4 @@
 pub mod GroupLemmas
 pub mod IdSlots
 pub mod LatestLemmas
+pub mod NodeLemmas

@@ -5,6 +5,7 @@ pub mod IdColumns
 pub mod Ids
 pub mod JoinColumns
 pub mod Joins
+pub mod Nodes
 pub mod PosColumns
 pub mod UserPos
 pub mod ValueColumns

@@ -1,0 +1,89 @@
+-- What the rows of a dictionary file have.
+use Rattle.std.proofs.Common.{◌≡◌, ℕ, ◌+◌, ◌<◌, true, false, ◌||◌, eqb, List, [], ◌∷◌, ◌++◌, Option, Some, None, Ok, Err, length, length-append, append-nil, option_to_list, refl, arith, inl, inr, subst}
+use Rattle.std.specs.Str.{is_utf8}
+use Rattle.std.proofs.lemmas.Bool.{cases_Bool}
+use Rattle.std.proofs.lemmas.Bool.Decides.{nat_tests}
+use Rattle.std.proofs.lemmas.List.Elements.{All-append, All-cons, All-nil}
+use Rattle.mz_base.specs.Answers.{◌>>=◌}
+use Rattle.mz_base.specs.Data.{IsWordSound}
+use Rattle.mz_base.specs.Lines.{fields_of}
+use Rattle.mz_base.specs.Rows.{rows_after}
+use Rattle.mz_base.specs.declared.data.TheConstants.{MOST_WORDS}
+use Rattle.mz_base.specs.declared.data.WordRow.{WordRow}
+use Rattle.mz_base.specs.declared.fault.FaultKind.TheVariants.{NotUtf8, Empty, Range, Limit}
+use Rattle.mz_base.proofs.LimitLemmas.{IsCost-from_test}
+use Rattle.dict_rows.specs.Rows.{RowFields, RowNumbers, are_in_range, fields_row, is_blank, passes_limit, ranged, row_fields, row_numbers, within_limits, word_of, word_row}
+use Rattle.dict_rows.specs.Words.{AreWords}
+
+-- the row is sound, and it is not one too many after these
+pub record IsNext (ids : ℕ) (rows : List WordRow) (row : WordRow) : Type 0 where
+  pub sound : IsWordSound ids row
+  pub room : length rows < MOST_WORDS
+
+IsNext-made : (ids : ℕ) (rows : List WordRow) (row : RowFields) (numbers : RowNumbers) → (is_blank row.reading || is_blank row.value) ≡ false → are_in_range ids numbers ≡ true → passes_limit rows row ≡ false → IsNext ids rows (word_of row numbers)
+IsNext-made ids rows row numbers filled ranged within = record {
+  sound = record {
+    read = grind (arith, nat_tests, filled);
+    left = grind (arith, nat_tests, ranged);
+    right = grind (arith, nat_tests, ranged);
+    cost = IsCost-from_test numbers.cost (grind (arith, nat_tests, ranged));
+    valued = grind (arith, nat_tests, filled);
+  };
+  room = grind (arith, nat_tests, within);
+}
+
+-- what the numbers give
+numbers-IsNext : (ids : ℕ) (rows : List WordRow) (number : ℕ) (fields : RowFields) (numbers : Option RowNumbers) (row : WordRow) → (is_blank fields.reading || is_blank fields.value) ≡ false → (ranged ids number numbers >>= within_limits rows number fields) ≡ Ok (Some row) → IsNext ids rows row
+numbers-IsNext ids rows number fields None row filled given = absurd cc
+numbers-IsNext ids rows number fields (Some numbers) row filled given =
+    elim (cases_Bool (are_in_range ids numbers)) [
+      | inl within ↦ elim (cases_Bool (passes_limit rows fields)) [
+        | inl passes ↦ let never : Err (Limit number) ≡ Ok (Some row) = rw (within, passes) at given in absurd cc
+        | inr short ↦
+            let is : Ok (Some (word_of fields numbers)) ≡ Ok (Some row) = rw (within, short) at given in
+            let same : word_of fields numbers ≡ row = cc in
+            subst (IsNext ids rows) same (IsNext-made ids rows fields numbers filled within short)
+      ]
+      | inr outside ↦ let never : Err (Range number) ≡ Ok (Some row) = rw outside at given in absurd cc
+    ]
+
+-- what the fields give
+fields-IsNext : (ids : ℕ) (rows : List WordRow) (number : ℕ) (fields : Option RowFields) (row : WordRow) → fields_row ids rows number fields ≡ Ok (Some row) → IsNext ids rows row
+fields-IsNext ids rows number None row given = absurd cc
+fields-IsNext ids rows number (Some fields) row given =
+    elim (cases_Bool (is_blank fields.reading || is_blank fields.value)) [
+      | inl empty ↦ let never : Err (Empty number) ≡ Ok (Some row) = rw empty at given in absurd cc
+      | inr filled ↦ numbers-IsNext ids rows number fields (row_numbers fields) row filled (rw filled at given)
+    ]
+
+-- what a line gives
+line-IsNext : (ids : ℕ) (rows : List WordRow) (number : ℕ) (line : List ℕ) (row : WordRow) → word_row ids rows number line ≡ Ok (Some row) → IsNext ids rows row
+unfolding word_row
+line-IsNext ids rows number line row given =
+    elim (cases_Bool (is_utf8 line)) [
+      | inl text ↦ elim (cases_Bool (eqb (length line) 0)) [
+        | inl empty ↦ let never : Ok None ≡ Ok (Some row) = rw (text, empty) at given in absurd cc
+        | inr some ↦ fields-IsNext ids rows number (row_fields (fields_of line)) row (rw (text, some) at given)
+      ]
+      | inr bytes ↦ let never : Err (NotUtf8 number) ≡ Ok (Some row) = rw bytes at given in absurd cc
+    ]
+
+more_words : (ids : ℕ) (rows : List WordRow) (row : Option WordRow) → ((word : WordRow) → row ≡ Some word → IsNext ids rows word) → AreWords ids rows → AreWords ids (rows ++ option_to_list row)
+more_words ids rows None next words = record {
+  sound = All-append (IsWordSound ids) rows [] words.sound (All-nil (IsWordSound ids));
+  few = rw append-nil words.few;
+}
+more_words ids rows (Some word) next words =
+    let is = next word refl in record {
+      sound = All-append (IsWordSound ids) rows (word ∷ []) words.sound (All-cons (IsWordSound ids) word [] is.sound (All-nil (IsWordSound ids)));
+      few = omega (arith, length-append rows (word ∷ []), is.room);
+    }
+
+-- line by line
+pub words_after : (ids : ℕ) (rows : List WordRow) (number : ℕ) (lines : List (List ℕ)) (all : List WordRow) → AreWords ids rows → rows_after (word_row ids) rows number lines ≡ Ok all → AreWords ids all
+words_after ids rows number [] all words is = let same : rows ≡ all = cc in subst (AreWords ids) same words
+words_after ids rows number (line ∷ lines) all words is =
+    elim (word_row ids rows number line) as (λ given. word_row ids rows number line ≡ given → (given >>= (λ row. rows_after (word_row ids) (rows ++ option_to_list row) (number + 1) lines)) ≡ Ok all → AreWords ids all) [
+      | Ok row ↦ λ given rest. words_after ids (rows ++ option_to_list row) (number + 1) lines all (more_words ids rows row (λ word same. line-IsNext ids rows number line word (rw same at given)) words) rest
+      | Err kind ↦ λ given rest. absurd (cc)
+    ] refl is
