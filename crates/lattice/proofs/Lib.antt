@@ -5,3 +5,4 @@ pub mod HitLemmas
 pub mod MadeLemmas
 pub mod PlaceLemmas
 pub mod RangeLemmas
+pub mod SmallSetLemmas
