@@ -13,10 +13,9 @@ use Rattle.mz_base.specs.declared.lattice.Source.{Source}
 use Rattle.mz_base.specs.declared.lattice.Source.TheVariants.{User, Word, Char, Run}
 use Rattle.mz_base.specs.declared.user.UserRow.{UserRow}
 use Rattle.conversion_meaning.specs.Entries.{suppressed, entry_of, user_entry, word_entry, node, is_run, user_entries, word_entries, char_entries, run_entries, is_cut, entries_in, entries_from, entries}
-use Rattle.conversion_meaning.specs.Lattices.{IsEntry, entry, no_entry}
+use Rattle.conversion_meaning.specs.Lattices.{IsEntry, IsLatticeOf, entry, no_entry}
 use Rattle.conversion_meaning.proofs.EntryLemmas.{IsEntry-entries}
 use Rattle.conversion_meaning.proofs.Lists.{Among, Among-append_cases, Among-get_or, from_filter_map, from_flat_map, from_map}
-use Rattle.lattice.specs.Made.{IsMadeOf}
 use Rattle.lattice.specs.Rows.{IsThere}
 use Rattle.lattice.proofs.PlaceLemmas.{place_is_inside}
 
@@ -87,16 +86,16 @@ module _ (d : DataLists) (rows : List UserRow) (key bounds : List ℕ) where
       let second = from_flat_map (entries_in d rows key bounds first.0) e _ first.2 in
       there_uncut first.0 second.0 e (is_cut bounds first.0 second.0) second.2
 
-among_made : (d : DataLists) (rows : List UserRow) (l : Lattice) (ordinal : ℕ) → IsMadeOf d rows l → ordinal < length l.entries → Among (entry l.entries ordinal) (entries d rows l.key l.bounds)
+among_made : (d : DataLists) (rows : List UserRow) (l : Lattice) (ordinal : ℕ) → IsLatticeOf d rows l → ordinal < length l.entries → Among (entry l.entries ordinal) (entries d rows l.key l.bounds)
 among_made d rows l ordinal made inside =
-    subst (λ (es : List Entry). Among (entry l.entries ordinal) es) made.entries (Among-get_or l.entries ordinal no_entry inside)
+    subst (λ (es : List Entry). Among (entry l.entries ordinal) es) made.entries_are (Among-get_or l.entries ordinal no_entry inside)
 
 -- an entry of a lattice that was built is one
-pub IsEntry-made : (d : DataLists) (rows : List UserRow) (l : Lattice) (ordinal : ℕ) → AreDataSound d → IsMadeOf d rows l → ordinal < length l.entries → IsEntry d l.key l.bounds (entry l.entries ordinal)
+pub IsEntry-made : (d : DataLists) (rows : List UserRow) (l : Lattice) (ordinal : ℕ) → AreDataSound d → IsLatticeOf d rows l → ordinal < length l.entries → IsEntry d l.key l.bounds (entry l.entries ordinal)
 IsEntry-made d rows l ordinal sound made inside =
     IsEntry-entries d sound rows l.key l.bounds (entry l.entries ordinal) (among_made d rows l ordinal made inside)
 
 -- and its row is there
-pub IsThere-made : (d : DataLists) (rows : List UserRow) (l : Lattice) (ordinal : ℕ) → IsMadeOf d rows l → ordinal < length l.entries → IsThere d rows (entry l.entries ordinal).source
+pub IsThere-made : (d : DataLists) (rows : List UserRow) (l : Lattice) (ordinal : ℕ) → IsLatticeOf d rows l → ordinal < length l.entries → IsThere d rows (entry l.entries ordinal).source
 IsThere-made d rows l ordinal made inside =
     IsThere-entries d rows l.key l.bounds (entry l.entries ordinal) (among_made d rows l ordinal made inside)

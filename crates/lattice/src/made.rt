@@ -1,6 +1,5 @@
 ghost use Rattle.std.specs.Prelude.{◌≡◌, IfOk};
-ghost use Rattle.conversion_meaning.specs.Lattices.{AreBounds, IsKey, IsWellFormed};
-ghost use Rattle.lattice.specs.Made.{IsMadeOf};
+ghost use Rattle.conversion_meaning.specs.Lattices.{AreBounds, IsKey, IsLatticeOf, IsWellFormed};
 
 use crate::by_end::by_end;
 use crate::entries::entries_of;
@@ -19,7 +18,7 @@ pub fn build<D: DataSet, U: UserWords>(
     requires bounds { AreBounds key.now bounds.now }
     ensures key { IfOk result (λ l. l.key ≡ key.now) }
     ensures bounds { IfOk result (λ l. l.bounds ≡ bounds.now) }
-    ensures made { IfOk result (IsMadeOf (D.lists set.now) (U.rows user.now)) }
+    ensures made { IfOk result (IsLatticeOf (D.lists set.now) (U.rows user.now)) }
     ensures well_formed { IfOk result (IsWellFormed (D.lists set.now)) }
 {
     let entries = entries_of(alloc, set, user, key, bounds)?;

@@ -1,8 +1,7 @@
 ghost use Rattle.std.specs.Prelude.{◌≡◌, ◌≤◌, ◌++◌, length, map, IfOk, OnOk, slice_index_or, []};
 ghost use Rattle.std.proofs.Props.{props};
 ghost use Rattle.mz_base.specs.Data.{AreDataSound, readings, rows_with};
-ghost use Rattle.conversion_meaning.specs.Lattices.{IsKey};
-ghost use Rattle.lattice.specs.Made.{IsMadeOf};
+ghost use Rattle.conversion_meaning.specs.Lattices.{IsKey, IsLatticeOf};
 ghost use Rattle.lattice.specs.SmallSet.{small};
 
 use crate::{build, value_of};
@@ -222,21 +221,23 @@ fn values_of(alloc: Global, text: &str, bound: u16) -> Result<String, NoMemory> 
 fn lattice_of(alloc: Global, set: &Small, key: &[char], bound: u16) -> Result<Lattice, NoMemory>
     requires key { IsKey key.now }
     requires bound { bound ≤ length key.now }
-    ensures { IfOk result (IsMadeOf small []) }
+    ensures { IfOk result (IsLatticeOf small []) }
 {
+    let user = NoUserWords::new(alloc);
     if bound == 0 {
-        build(alloc, set, &NoUserWords, key, &[])
+        build(alloc, set, &user, key, &[])
     } else {
-        build(alloc, set, &NoUserWords, key, &[bound])
+        build(alloc, set, &user, key, &[bound])
     }
 }
 
 fn values_in(alloc: Global, set: &Small, lattice: &Lattice) -> Result<String, NoMemory>
-    requires { IsMadeOf small [] lattice.now }
+    requires { IsLatticeOf small [] lattice.now }
 {
+    let user = NoUserWords::new(alloc);
     let mut values = String::new(alloc);
     for ordinal in 0..lattice.entries.as_slice().len().min(100) as u32 {
-        for letter in value_of(lattice, set, &NoUserWords, ordinal) {
+        for letter in value_of(lattice, set, &user, ordinal) {
             values.push(*letter)?;
         }
         values.push(' ')?;

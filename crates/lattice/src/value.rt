@@ -1,7 +1,6 @@
 ghost use Rattle.std.specs.Prelude.{◌≡◌, ◌<◌, ◌≤◌, length, slice_range};
-ghost use Rattle.conversion_meaning.specs.Lattices.{entry};
+ghost use Rattle.conversion_meaning.specs.Lattices.{IsLatticeOf, entry};
 ghost use Rattle.conversion_meaning.specs.Values.{value_from, value_of};
-ghost use Rattle.lattice.specs.Made.{IsMadeOf};
 ghost use Rattle.lattice.specs.Rows.{IsThere};
 
 use mz_base::{DataSet, Lattice, Source, UserWords};
@@ -13,7 +12,7 @@ pub fn value_of<'a, D: DataSet, U: UserWords>(
     user: &'a U,
     ordinal: u32,
 ) -> &'a [char]
-    requires made { IsMadeOf (D.lists set.now) (U.rows user.now) lattice.now }
+    requires made { IsLatticeOf (D.lists set.now) (U.rows user.now) lattice.now }
     requires inside { ordinal < length lattice.now.entries }
     ensures { result.now ≡ value_of (D.lists set.now) (U.rows user.now) lattice.now.key (entry lattice.now.entries ordinal) }
 {

@@ -2,7 +2,7 @@ use Rattle.std.proofs.Common.{rules, ap, ◌∙◌, length, arith}
 use Rattle.mz_base.specs.declared.lattice.Lattice.{Lattice}
 use Rattle.conversion_meaning.proofs.Counts.{entries-few}
 use Rattle.conversion_meaning.proofs.EntryLemmas.{IsWellFormed-from_entries}
-use Rattle.lattice.specs.Made.{IsMadeOf}
+use Rattle.conversion_meaning.specs.Lattices.{IsLatticeOf}
 use Rattle.lattice.proofs.made.build.Goals as goal
 
 pub by_end-requires : goal.by_end-requires
@@ -18,5 +18,5 @@ returns-clause-well_formed g c =
     let d = g.D.DataSet.lists c.args.set.now in
     let rows = g.U.UserWords.rows c.args.user.now in
     let l : Lattice = record { key = c.from_vec.result; bounds = c.from_vec-2.result; entries = c.from_vec-3.result; by_end = c.from_vec-4.result } in
-    let made : IsMadeOf d rows l = search rules in
-    IsWellFormed-from_entries d rows l (g.met.D.DataSet.sound c.args.set.now) made.key made.bounds made.entries made.by_end
+    let made : IsLatticeOf d rows l = search rules in
+    IsWellFormed-from_entries d rows l (g.met.D.DataSet.sound c.args.set.now) made
