@@ -3,4 +3,3 @@ pub mod WalkLemmas
 pub mod TargetLemmas
 pub mod ClaimLemmas
 pub mod LatticeFacts
-pub mod SmallSet

@@ -1,4 +1,3 @@
 pub mod Claims
 pub mod Edges
 pub mod Walks
-pub mod SmallSet

@@ -10,6 +10,3 @@ mod verdict;
 mod walk;
 
 pub use verdict::check;
-
-#[cfg(test)]
-mod tests;
