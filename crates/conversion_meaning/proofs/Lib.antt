@@ -12,3 +12,5 @@ pub mod Recurrence
 pub mod AllPathsLemmas
 pub mod VerdictLemmas
 pub mod Tests
+pub mod SetLemmas
+pub mod WellTests

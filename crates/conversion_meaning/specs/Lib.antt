@@ -12,3 +12,4 @@ pub mod Potentials
 pub mod Steps
 pub mod Values
 pub mod Verdicts
+pub mod SmallLattices

@@ -1,0 +1,76 @@
+-- The data set of the examples is within its limits.
+use Rattle.std.proofs.Common.{◌≡◌, refl, ℕ, zero, suc, ◌*◌, ◌+◌, ◌<◌, ℤ, pos, Bool, true, false, ◌&&◌, List, [], ◌∷◌, length, get_or, arith, lit<, lit≤}
+use Rattle.std.specs.Prelude.{nat_lt}
+use Rattle.std.specs.List.{list_all}
+use Rattle.std.proofs.lemmas.Bool.Decides.{nat_tests}
+use Rattle.mz_base.specs.Data.{AreDataSound, IsCost, IsNode, IsWordSound, connection, pos_of, unknown_of, word_at}
+use Rattle.mz_base.specs.Limits.{is_cost}
+use Rattle.mz_base.specs.declared.data.Class.{Class}
+use Rattle.mz_base.specs.declared.data.Class.TheVariants.{Hiragana, Katakana, Digit, Letter, Other}
+use Rattle.mz_base.specs.declared.data.WordRow.{WordRow}
+use Rattle.mz_base.proofs.LimitLemmas.{IsCost-from_test}
+use Rattle.conversion_meaning.specs.Examples.{set}
+
+both : (a b : Bool) → (a && b) ≡ true → (a ≡ true) × (b ≡ true)
+both true b h = (refl, h)
+both false b h = absurd (let clash : false ≡ true = h in cc)
+
+-- what all elements pass, and the default, passes at each place
+passes_at : {X : Type 0} (p : X → Bool) (d : X) (xs : List X) (i : ℕ) → list_all p xs ≡ true → p d ≡ true → p (get_or xs i d) ≡ true
+passes_at p d [] i all default = default
+passes_at p d (x ∷ xs) zero all default = (both (p x) (list_all p xs) all).0
+passes_at p d (x ∷ xs) (suc i) all default =
+    passes_at p d xs i (both (p x) (list_all p xs) all).1 default
+
+costs_small : (r l : ℕ) → IsCost (connection set r l)
+unfolding connection
+costs_small r l = IsCost-from_test _ (passes_at is_cost (pos 0) set.costs (r * set.ids + l) refl refl)
+
+node_small : (id : ℕ) (cost : ℤ) → id < 3 → is_cost cost ≡ true → IsNode 3 (id, cost)
+node_small id cost below is = record { id = below; cost = IsCost-from_test cost is }
+
+classes_small : (class : Class) → IsNode 3 (unknown_of set class)
+unfolding unknown_of
+classes_small Hiragana = node_small 1 (pos 5000) (lit< tt) refl
+classes_small Katakana = node_small 1 (pos 6000) (lit< tt) refl
+classes_small Digit = node_small 1 (pos 6000) (lit< tt) refl
+classes_small Letter = node_small 1 (pos 6000) (lit< tt) refl
+classes_small Other = node_small 1 (pos 6000) (lit< tt) refl
+
+-- a row's limits as a test
+abbrev is_word : WordRow → Bool
+is_word row =
+    (nat_lt 0 (length row.reading) && nat_lt 0 (length row.value)) && ((nat_lt row.lid 3 && nat_lt row.rid 3) && is_cost row.cost)
+
+IsWordSound-from_test : (row : WordRow) → is_word row ≡ true → IsWordSound 3 row
+IsWordSound-from_test row is =
+    let a = both (nat_lt 0 (length row.reading) && nat_lt 0 (length row.value)) _ is in
+    let texts = both (nat_lt 0 (length row.reading)) _ a.0 in
+    let b = both (nat_lt row.lid 3 && nat_lt row.rid 3) (is_cost row.cost) a.1 in
+    let ids = both (nat_lt row.lid 3) _ b.0 in
+    record { read = below 0 _ texts.0; left = below row.lid 3 ids.0; right = below row.rid 3 ids.1; cost = IsCost-from_test row.cost b.1; valued = below 0 _ texts.1 }
+  where
+    below : (a b : ℕ) → nat_lt a b ≡ true → a < b
+    below a b is = grind (arith, nat_tests)
+
+words_small : (i : ℕ) → i < 4 → IsWordSound 3 (word_at set i)
+unfolding word_at
+words_small zero inside = IsWordSound-from_test (word_at set 0) refl
+words_small (suc zero) inside = IsWordSound-from_test (word_at set 1) refl
+words_small (suc (suc zero)) inside = IsWordSound-from_test (word_at set 2) refl
+words_small (suc (suc (suc zero))) inside = IsWordSound-from_test (word_at set 3) refl
+words_small (suc (suc (suc (suc i)))) inside = absurd (omega arith)
+
+pub AreDataSound-set : AreDataSound set
+unfolding pos_of
+AreDataSound-set =
+    record {
+      some_ids = lit< tt;
+      few_ids = lit≤ tt;
+      few_words = lit≤ tt;
+      connections = λ r l right left. costs_small r l;
+      classes = classes_small;
+      parts = λ name. tt;
+      words = words_small;
+      rules_sound = record { each = tt; distinct = tt };
+    }
