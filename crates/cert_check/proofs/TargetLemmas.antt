@@ -4,6 +4,7 @@ use Rattle.std.specs.Prelude.{ℤ, slice_index}
 use Rattle.std.proofs.lemmas.Bool.Decides.{nat_tests}
 use Rattle.mz_base.specs.Data.{DataLists}
 use Rattle.mz_base.specs.declared.lattice.Entry.{Entry}
+use Rattle.mz_base.specs.declared.lattice.Span.{Span}
 use Rattle.conversion_meaning.specs.Lattices.{entry}
 use Rattle.cert_check.specs.declared.edge.Target.{Target}
 use Rattle.cert_check.specs.Edges.{AreMetInto, AreMetTo, BeginsRise, EndBefore, ordinal_at, target_at, target_of}
@@ -49,15 +50,15 @@ begin-rises es potentials end rank rises =
         omega (arith, e, f)
 
 -- one target more is met
-pub AreMetTo-next : (d : DataLists) (es : List Entry) (potentials : List ℤ) (end : Target) (rank : ℕ) → AreMetTo d es potentials end rank → AreMetInto d es potentials (target_at es potentials end rank) → AreMetTo d es potentials end (rank + 1)
-AreMetTo-next d es potentials end rank so_far this =
+pub AreMetTo-next : (d : DataLists) (es : List Entry) (span : Span) (potentials : List ℤ) (end : Target) (rank : ℕ) → AreMetTo d es span potentials end rank → AreMetInto d es span potentials (target_at es potentials end rank) → AreMetTo d es span potentials end (rank + 1)
+AreMetTo-next d es span potentials end rank so_far this =
     record { each = λ r below. by_cases r below (split r rank) }
   where
-    by_cases : (r : ℕ) → r < rank + 1 → (r < rank) ⊎ (rank ≤ r) → AreMetInto d es potentials (target_at es potentials end r)
+    by_cases : (r : ℕ) → r < rank + 1 → (r < rank) ⊎ (rank ≤ r) → AreMetInto d es span potentials (target_at es potentials end r)
     by_cases r below (inl less) = so_far.each r less
     by_cases r below (inr past) =
         let same : rank ≡ r = omega arith in
-        subst (λ x. AreMetInto d es potentials (target_at es potentials end x)) same this
+        subst (λ x. AreMetInto d es span potentials (target_at es potentials end x)) same this
 
 -- what ends before a position ends before a later one
 pub EndBefore-later : (es : List Entry) (by_end : List ℕ) (position later cursor : ℕ) → ((k : ℕ) → k < cursor → (entry es (slice_index by_end k)).end < position) → position ≤ later → EndBefore es by_end later cursor

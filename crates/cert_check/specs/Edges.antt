@@ -2,14 +2,15 @@
 use Rattle.std.specs.Prelude.{◌≡◌, ℕ, ◌+◌, ◌<◌, ◌≤◌, ℤ, pos, ◌+ℤ◌, ◌≤ℤ◌, ◌<ℤ◌, List, Contains, length, nat_lt, if◌then◌else◌, slice_index, slice_index_or, Option, Some, None}
 use Rattle.mz_base.specs.Data.{DataLists, connection}
 use Rattle.mz_base.specs.declared.lattice.Entry.{Entry}
+use Rattle.mz_base.specs.declared.lattice.Span.{Span}
 use Rattle.conversion_meaning.specs.Lattices.{entry}
 use Rattle.cert_check.specs.declared.edge.Source.{Source}
 use Rattle.cert_check.specs.declared.edge.Target.{Target}
 use Rattle.cert_check.specs.declared.edge.Edge.{Edge}
 
--- the start
-abbrev pub start : Source
-start = record { rid = 0; potential = pos 0 }
+-- the start of a span
+abbrev pub start : Span → Source
+start span = record { rid = span.left; potential = pos 0 }
 
 -- an entry as a source
 abbrev pub source_at : List Entry → List ℤ → ℕ → Source
@@ -64,45 +65,45 @@ FirstSource d es potentials target None = AreMetBelow d es potentials target (le
 FirstSource d es potentials target (Some o) = IsFirstSource d es potentials target o
 
 -- the start meets the target, where they touch
-abbrev pub IsStartMet : DataLists → Target → Type 0
-IsStartMet d target = target.begin ≡ 0 → IsMetBy d start target
+abbrev pub IsStartMet : DataLists → Span → Target → Type 0
+IsStartMet d span target = target.begin ≡ span.begin → IsMetBy d (start span) target
 
 -- they touch, and it does not
-abbrev pub IsStartUnmet : DataLists → Target → Type 0
-IsStartUnmet d target = (target.begin ≡ 0) × IsUnmetBy d start target
+abbrev pub IsStartUnmet : DataLists → Span → Target → Type 0
+IsStartUnmet d span target = (target.begin ≡ span.begin) × IsUnmetBy d (start span) target
 
 -- each source that touches the target meets it
-pub record AreMetInto (d : DataLists) (es : List Entry) (potentials : List ℤ) (target : Target) : Type 0 where
-  pub first : IsStartMet d target
+pub record AreMetInto (d : DataLists) (es : List Entry) (span : Span) (potentials : List ℤ) (target : Target) : Type 0 where
+  pub first : IsStartMet d span target
   pub entries : AreMetBelow d es potentials target (length es)
 
 -- the first source, the start before the entries, that touches the target and does not meet it
-abbrev pub IsFirstInto : DataLists → List Entry → List ℤ → Target → Option ℕ → Type 0
-IsFirstInto d es potentials target None = IsStartUnmet d target
-IsFirstInto d es potentials target (Some o) =
-    IsStartMet d target × IsFirstSource d es potentials target o
+abbrev pub IsFirstInto : DataLists → List Entry → Span → List ℤ → Target → Option ℕ → Type 0
+IsFirstInto d es span potentials target None = IsStartUnmet d span target
+IsFirstInto d es span potentials target (Some o) =
+    IsStartMet d span target × IsFirstSource d es potentials target o
 
 -- that source, or none
-abbrev pub FirstInto : DataLists → List Entry → List ℤ → Target → Option (Option ℕ) → Type 0
-FirstInto d es potentials target None = AreMetInto d es potentials target
-FirstInto d es potentials target (Some from) = IsFirstInto d es potentials target from
+abbrev pub FirstInto : DataLists → List Entry → Span → List ℤ → Target → Option (Option ℕ) → Type 0
+FirstInto d es span potentials target None = AreMetInto d es span potentials target
+FirstInto d es span potentials target (Some from) = IsFirstInto d es span potentials target from
 
 -- each target below a rank is met
-pub record AreMetTo (d : DataLists) (es : List Entry) (potentials : List ℤ) (end : Target) (most : ℕ) : Type 0 where
-  pub each : (rank : ℕ) → rank < most → AreMetInto d es potentials (target_at es potentials end rank)
+pub record AreMetTo (d : DataLists) (es : List Entry) (span : Span) (potentials : List ℤ) (end : Target) (most : ℕ) : Type 0 where
+  pub each : (rank : ℕ) → rank < most → AreMetInto d es span potentials (target_at es potentials end rank)
 
 -- the first edge that is not met, by target and then by source
-pub record IsFirstEdge (d : DataLists) (es : List Entry) (potentials : List ℤ) (end : Target) (edge : Edge) : Type 0 where
+pub record IsFirstEdge (d : DataLists) (es : List Entry) (span : Span) (potentials : List ℤ) (end : Target) (edge : Edge) : Type 0 where
   pub rank : ℕ
   pub within : rank < length es + 1
   pub to_is : edge.to ≡ ordinal_at (length es) rank
-  pub from_is : IsFirstInto d es potentials (target_at es potentials end rank) edge.from
-  pub lower : AreMetTo d es potentials end rank
+  pub from_is : IsFirstInto d es span potentials (target_at es potentials end rank) edge.from
+  pub lower : AreMetTo d es span potentials end rank
 
 -- that edge, or none
-abbrev pub FirstEdge : DataLists → List Entry → List ℤ → Target → Option Edge → Type 0
-FirstEdge d es potentials end None = AreMetTo d es potentials end (length es + 1)
-FirstEdge d es potentials end (Some edge) = IsFirstEdge d es potentials end edge
+abbrev pub FirstEdge : DataLists → List Entry → Span → List ℤ → Target → Option Edge → Type 0
+FirstEdge d es span potentials end None = AreMetTo d es span potentials end (length es + 1)
+FirstEdge d es span potentials end (Some edge) = IsFirstEdge d es span potentials end edge
 
 -- the entries before a place in the order of ends end before this position
 pub record EndBefore (es : List Entry) (by_end : List ℕ) (position cursor : ℕ) : Type 0 where

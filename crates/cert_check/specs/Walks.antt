@@ -1,8 +1,9 @@
--- A walk along a path over a key: docs/CONVERSION.md, "Verdict".
+-- A walk along a path over a span: docs/CONVERSION.md, "Verdict".
 use Rattle.std.specs.Prelude.{◌≡◌, ◌≢◌, ℕ, ◌<◌, ◌≤◌, ℤ, List, length, Option, Some, None, Result, Ok, Err}
 use Rattle.mz_base.specs.Data.{DataLists, IsCost}
 use Rattle.mz_base.specs.declared.lattice.Entry.{Entry}
 use Rattle.mz_base.specs.declared.lattice.Span.{Span}
+use Rattle.mz_base.specs.declared.lattice.TheConstants.{MOST_KEY}
 use Rattle.conversion_meaning.specs.Lattices.{entry}
 use Rattle.conversion_meaning.specs.Paths.{IsPathOver, path_cost}
 use Rattle.conversion_meaning.specs.Verdicts.{BreaksAt}
@@ -22,9 +23,12 @@ pub record AreSound (d : DataLists) (es : List Entry) : Type 0 where
 pub record AreInside (es : List Entry) (last : ℕ) : Type 0 where
   pub each : (o : ℕ) → o < length es → (entry es o).end ≤ last
 
--- a key of so many characters, the id 0 on both sides
-abbrev pub key_span : ℕ → Span
-key_span last = record { begin = 0; end = last; left = 0; right = 0 }
+-- a span of a key, with ids that there are
+pub record IsInKey (d : DataLists) (span : Span) : Type 0 where
+  pub forward : span.begin ≤ span.end
+  pub short : span.end ≤ MOST_KEY
+  pub left : span.left < d.ids
+  pub right : span.right < d.ids
 
 -- what follows on a path: the entry of an ordinal, where it begins here
 abbrev pub Follows : List Entry → ℕ → ℕ → Option Entry → Type 0

@@ -1,7 +1,7 @@
 ghost use Rattle.std.specs.Prelude.{◌≡◌, ◌<◌, ◌≤◌, ◌↔◌, IsTrue, true, false, length};
 ghost use Rattle.cert_check.specs.Edges.{IsMetBy, IsStartMet, IsStartUnmet, source_at, target_at};
 
-use mz_base::{DataSet, Entry};
+use mz_base::{DataSet, Entry, Span};
 
 /// Where an edge comes from: the start or an entry.
 #[derive(Clone, Copy)]
@@ -37,18 +37,18 @@ pub fn is_met<D: DataSet>(set: &D, source: &Source, target: &Target) -> bool
     target.potential as i128 <= source.potential as i128 + connection + target.cost as i128
 }
 
-/// Whether the start meets the target, where they touch.
-pub fn meets_start<D: DataSet>(set: &D, target: &Target) -> bool
-    requires some { 0 < (D.lists set.now).ids }
+/// Whether the start of the span meets the target, where they touch.
+pub fn meets_start<D: DataSet>(set: &D, span: &Span, target: &Target) -> bool
+    requires right { span.now.left < (D.lists set.now).ids }
     requires left { target.now.lid < (D.lists set.now).ids }
-    ensures met { result ≡ true → IsStartMet (D.lists set.now) target.now }
-    ensures unmet { result ≡ false → IsStartUnmet (D.lists set.now) target.now }
+    ensures met { result ≡ true → IsStartMet (D.lists set.now) span.now target.now }
+    ensures unmet { result ≡ false → IsStartUnmet (D.lists set.now) span.now target.now }
 {
     let start = Source {
-        rid: 0,
+        rid: span.left,
         potential: 0,
     };
-    target.begin != 0 || is_met(set, &start, target)
+    target.begin != span.begin || is_met(set, &start, target)
 }
 
 pub fn nth_source(entries: &[Entry], potentials: &[i64], ordinal: u32) -> Source

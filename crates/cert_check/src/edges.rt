@@ -6,7 +6,7 @@ ghost use Rattle.cert_check.specs.Walks.{AreSound};
 
 use crate::cursor::advance;
 use crate::edge::{Edge, Target, is_met, meets_start, nth_source, nth_target};
-use mz_base::{DataSet, Entry};
+use mz_base::{DataSet, Entry, Span};
 
 /// The first edge that is not met, by target and then by source. Each pair that touches is looked at once.
 pub fn unmet_edge<D: DataSet>(
@@ -14,17 +14,18 @@ pub fn unmet_edge<D: DataSet>(
     entries: &[Entry],
     by_end: &[u32],
     potentials: &[i64],
+    span: &Span,
     end: &Target,
 ) -> Option<Edge>
-    requires ready { AreReady (D.lists set.now) entries.now by_end.now end.now }
+    requires ready { AreReady (D.lists set.now) entries.now by_end.now span.now end.now }
     requires counted { length potentials.now ≡ length entries.now }
-    ensures { FirstEdge (D.lists set.now) entries.now potentials.now end.now result }
+    ensures { FirstEdge (D.lists set.now) entries.now span.now potentials.now end.now result }
 {
     let mut cursor = 0;
     for rank in 0..entries.len() + 1 {
         let target = nth_target(entries, potentials, end, rank);
         cursor = advance(entries, by_end, cursor, target.begin);
-        if let Some(from) = unmet_into(set, entries, by_end, potentials, cursor, &target) {
+        if let Some(from) = unmet_into(set, entries, by_end, potentials, span, cursor, &target) {
             let to = nth_ordinal(by_end, rank);
             return Some(Edge { from, to });
         }
@@ -38,6 +39,7 @@ fn unmet_into<D: DataSet>(
     entries: &[Entry],
     by_end: &[u32],
     potentials: &[i64],
+    span: &Span,
     cursor: usize,
     target: &Target,
 ) -> Option<Option<u32>>
@@ -45,10 +47,11 @@ fn unmet_into<D: DataSet>(
     requires at { IsCursor entries.now by_end.now target.now.begin cursor }
     requires counted { length potentials.now ≡ length entries.now }
     requires sound { AreSound (D.lists set.now) entries.now }
+    requires right { span.now.left < (D.lists set.now).ids }
     requires left { target.now.lid < (D.lists set.now).ids }
-    ensures { FirstInto (D.lists set.now) entries.now potentials.now target.now result }
+    ensures { FirstInto (D.lists set.now) entries.now span.now potentials.now target.now result }
 {
-    if !meets_start(set, target) {
+    if !meets_start(set, span, target) {
         return Some(None);
     }
     match unmet_source(set, entries, by_end, potentials, cursor, target) {

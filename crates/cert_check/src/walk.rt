@@ -1,17 +1,16 @@
-ghost use Rattle.std.specs.Prelude.{◌≤◌, length};
-ghost use Rattle.cert_check.specs.Walks.{AreInside, AreSound, Follows, Walks, key_span};
+ghost use Rattle.cert_check.specs.Walks.{AreInside, AreSound, Follows, IsInKey, Walks};
 
-use mz_base::{DataSet, Entry, MOST_KEY};
+use mz_base::{DataSet, Entry, Span};
 
-/// The cost of a path over a key of `last` characters, or the place where it breaks.
-pub fn walk<D: DataSet>(set: &D, entries: &[Entry], last: usize, path: &[u32]) -> Result<i64, u64>
-    requires short { last ≤ MOST_KEY }
+/// The cost of a path over a span, or the place where it breaks.
+pub fn walk<D: DataSet>(set: &D, entries: &[Entry], span: &Span, path: &[u32]) -> Result<i64, u64>
+    requires key { IsInKey (D.lists set.now) span.now }
     requires sound { AreSound (D.lists set.now) entries.now }
-    requires inside { AreInside entries.now last }
-    ensures { Walks (D.lists set.now) entries.now (key_span last) path.now result }
+    requires inside { AreInside entries.now span.now.end }
+    ensures { Walks (D.lists set.now) entries.now span.now path.now result }
 {
-    let mut here = 0;
-    let mut rid = 0;
+    let mut here = span.begin;
+    let mut rid = span.left;
     let mut cost = 0i64;
     for (place, ordinal) in path.iter().enumerate() {
         match following(entries, here, *ordinal) {
@@ -23,10 +22,10 @@ pub fn walk<D: DataSet>(set: &D, entries: &[Entry], last: usize, path: &[u32]) -
             None => return Err(place as u64),
         }
     }
-    if here as usize != last {
+    if here != span.end {
         return Err(path.len() as u64);
     }
-    Ok(cost + set.conn(rid, 0) as i64)
+    Ok(cost + set.conn(rid, span.right) as i64)
 }
 
 fn following(entries: &[Entry], here: u16, ordinal: u32) -> Option<Entry>
