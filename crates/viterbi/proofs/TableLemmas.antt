@@ -18,13 +18,14 @@ use Rattle.conversion_meaning.proofs.CostBounds.{IsWithin-least}
 use Rattle.conversion_meaning.proofs.Duality.{AreForward}
 use Rattle.conversion_meaning.proofs.LatticeLemmas.{source_first}
 use Rattle.viterbi.specs.declared.arrivals.Arrival.{Arrival}
+use Rattle.viterbi.specs.declared.arrivals.Arrivals.{Arrivals}
 use Rattle.viterbi.specs.declared.arrivals.Choice.{Choice}
 use Rattle.viterbi.specs.declared.table.Reached.{Reached}
 use Rattle.viterbi.specs.declared.table.Target.{Target}
-use Rattle.viterbi.specs.Arrivals.{IsArrival, AreArrivals, AreSmall, IsUpTo, IsCheapest, IsChoice, arrival, after_choice, at_begin, choice_of}
+use Rattle.viterbi.specs.Arrivals.{IsArrival, AreAllArrivals, AreArrivals, AreSmall, IsUpTo, IsCheapest, IsChoice, IsReachedBy, arrival, after_choice, at_begin, choice_of, target_of}
 use Rattle.viterbi.specs.Back.{IsWayBack, cost_back}
 use Rattle.viterbi.specs.Table.{reached, no_reached, IsTrail, IsReached, IsTable, most_reached}
-use Rattle.viterbi.proofs.ArrivalLemmas.{each_push, last_or_before}
+use Rattle.viterbi.proofs.ArrivalLemmas.{AreAllArrivals-none, AreAllArrivals-push, each_push, last_or_before}
 use Rattle.viterbi.proofs.BackLemmas.{IsWayBack-forward, IsFirstBack-start, IsFirstBack-via, IsLeastCost-from_first, IsWay, IsUpToOver, IsBeaten}
 
 -- a trail goes on in a longer table
@@ -246,17 +247,43 @@ module _ (d : DataLists) (l : Lattice) (span : Span) (well : IsWellFormed d l) (
   row_next sound next room same r row out =
       IsTable-row sound r room (λ inside. subst (λ (e : Entry). IsReached d l.entries span table e.begin e.lid e.cost r) same (row (ap (is_in span) same ∙ inside))) (λ outside. out (ap (is_in span) same ∙ outside))
 
-  -- the table with the row of an entry of the span
-  pub IsTable-inside : AreDataSound d → (next : Entry) → length table < length l.entries → next ≡ entry l.entries (length table) → is_in span next ≡ true → (r : Reached) → IsReached d l.entries span table next.begin next.lid next.cost r → IsTable d l.entries span (table ++ r ∷ [])
-  IsTable-inside sound next room same inside r row =
-      row_next sound next room same r (λ _. row) (λ outside. let f : true ≡ false = sym inside ∙ outside in cc)
-
-  -- the table with the row of another entry
-  pub IsTable-outside : AreDataSound d → (next : Entry) → length table < length l.entries → next ≡ entry l.entries (length table) → is_in span next ≡ false → IsTable d l.entries span (table ++ no_reached ∷ [])
-  IsTable-outside sound next room same outside =
-      row_next sound next room same no_reached (λ inside. let f : true ≡ false = sym inside ∙ outside in cc) (λ _. refl)
+  -- the table with the row of the next entry, by the arrivals at its begin
+  pub IsTable-next : AreDataSound d → (next : Entry) → length table < length l.entries → next ≡ entry l.entries (length table) → (xs : List Arrival) → AreArrivals l.entries span table next.begin xs → (r : Reached) → (is_in span next ≡ true → IsReachedBy d span xs (target_of next) r) → (is_in span next ≡ false → r ≡ no_reached) → IsTable d l.entries span (table ++ r ∷ [])
+  IsTable-next sound next room same xs are r row out = row_next sound next room same r by_arrivals out
+    where
+      by_arrivals : is_in span next ≡ true → IsReached d l.entries span table next.begin next.lid next.cost r
+      by_arrivals inside =
+          let by = row inside in
+          let forward : next.begin < next.end = subst (λ (e : Entry). e.begin < e.end) (sym same) (well.entries (length table) no_entry room).forward in
+          let begins : span.begin ≤ next.begin = grind (arith, nat_tests) in
+          let ends : next.end ≤ span.end = grind (arith, nat_tests) in
+          IsReached-by (target_of next) xs r (omega (arith, room)) begins (omega (arith, forward, ends)) are by.begin by.chosen
 
   -- what ends where the next entry begins has its row already
   pub sources_inside : (next : Entry) → length table < length l.entries → next ≡ entry l.entries (length table) → (o : ℕ) → o < length l.entries → (entry l.entries o).end ≡ next.begin → o < length table
   sources_inside next room same o inside ends =
       source_first d l o (length table) well inside room (ends ∙ ap (λ (e : Entry). e.begin) same)
+
+-- the table so far, with the arrivals at a position that is not behind the entries that come next
+pub record IsSoFar (d : DataLists) (l : Lattice) (span : Span) (here : Arrivals) (table : List Reached) (n : ℕ) : Type 0 where
+  pub count : length table ≡ n
+  pub is : IsTable d l.entries span table
+  pub all : AreAllArrivals l.entries l.by_end span table here
+  pub later : (o : ℕ) → n ≤ o → o < length l.entries → here.to ≤ (entry l.entries o).begin
+
+module _ (d : DataLists) (l : Lattice) (span : Span) (well : IsWellFormed d l) where
+  pub IsSoFar-none : (here : Arrivals) → here.to ≡ 0 → here.past ≡ 0 → here.list.items ≡ [] → IsSoFar d l span here [] 0
+  IsSoFar-none here to past none =
+      record { count = refl; is = IsTable-empty d l.entries span; all = AreAllArrivals-none l.entries l.by_end span [] here (AreForward-from_well d l well) to past none; later = λ o high inside. omega (arith, to) }
+
+  pub IsSoFar-next : IsSpan d l span → AreDataSound d → (before here : Arrivals) (table : List Reached) (n : ℕ) (next : Entry) (r : Reached) → IsSoFar d l span before table n → n < length l.entries → next ≡ entry l.entries n → AreAllArrivals l.entries l.by_end span table here → here.to ≡ next.begin → (is_in span next ≡ true → IsReachedBy d span here.list.items (target_of next) r) → (is_in span next ≡ false → r ≡ no_reached) → IsSoFar d l span here (table ++ r ∷ []) (n + 1)
+  IsSoFar-next spans sound before here table n next r so_far room same all to row out =
+      let count = so_far.count in
+      let inside : length table < length l.entries = omega (arith, count, room) in
+      let next_is : next ≡ entry l.entries (length table) = same ∙ ap (entry l.entries) (sym count) in
+      record {
+        count = omega (arith, count, length-append table (r ∷ []));
+        is = IsTable-next d l span well spans table so_far.is sound next inside next_is here.list.items (subst (λ t. AreArrivals l.entries span table t here.list.items) to all.are) r row out;
+        all = AreAllArrivals-push l.entries l.by_end span table r here all;
+        later = λ o high low. (let e = (well.rising n o no_entry (omega (arith, high)) low).begins in let f = ap (λ (x : Entry). x.begin) same in omega (arith, e, f, to));
+      }

@@ -1,11 +1,12 @@
 -- The entries that end at a position, and the cheapest of them before an id.
-use Rattle.std.specs.Prelude.{◌≡◌, ℕ, ◌<◌, ◌≤◌, ℤ, pos, ◌+ℤ◌, ◌<ℤ◌, ◌⊎◌, List, length, slice_index_or, Option, Some, None}
+use Rattle.std.specs.Prelude.{◌≡◌, ◌≢◌, ℕ, ◌+◌, ◌<◌, ◌≤◌, ℤ, pos, ◌+ℤ◌, ◌<ℤ◌, ◌⊎◌, List, length, slice_index, slice_index_or, Option, Some, None}
 use Rattle.mz_base.specs.Data.{DataLists, connection}
 use Rattle.mz_base.specs.declared.lattice.Entry.{Entry}
 use Rattle.mz_base.specs.declared.lattice.Span.{Span}
 use Rattle.conversion_meaning.specs.Bounds.{IsWithin}
 use Rattle.conversion_meaning.specs.Lattices.{entry}
 use Rattle.viterbi.specs.declared.arrivals.Arrival.{Arrival}
+use Rattle.viterbi.specs.declared.arrivals.Arrivals.{Arrivals}
 use Rattle.viterbi.specs.declared.arrivals.Choice.{Choice}
 use Rattle.viterbi.specs.declared.table.Reached.{Reached}
 use Rattle.viterbi.specs.declared.table.Target.{Target}
@@ -29,6 +30,16 @@ pub record IsArrival (es : List Entry) (span : Span) (table : List Reached) (to 
 pub record AreArrivals (es : List Entry) (span : Span) (table : List Reached) (to : ℕ) (xs : List Arrival) : Type 0 where
   pub each : (k : ℕ) → k < length xs → IsArrival es span table to (arrival xs k)
   pub all : (o : ℕ) → o < length es → (entry es o).end ≡ to → span.begin ≤ (entry es o).begin → (k : ℕ) × (k < length xs) × ((arrival xs k).ordinal ≡ o)
+
+-- the entries before a place in the order of ends end before this position
+abbrev pub EndBefore : List Entry → List ℕ → ℕ → ℕ → Type 0
+EndBefore es by_end position cursor = (k : ℕ) → k < cursor → (entry es (slice_index by_end k)).end < position
+
+-- all that end at a position, and the place behind them in the order of ends
+pub record AreAllArrivals (es : List Entry) (by_end : List ℕ) (span : Span) (table : List Reached) (x : Arrivals) : Type 0 where
+  pub are : AreArrivals es span table x.to x.list.items
+  pub within : x.past ≤ length by_end
+  pub before : EndBefore es by_end (x.to + 1) x.past
 
 -- the right ids are there, and the costs are small
 pub record AreSmall (d : DataLists) (xs : List Arrival) : Type 0 where
@@ -69,3 +80,12 @@ after_choice own (Some choice) = record { cost = choice.cost +ℤ own; before = 
 -- from the left id of the span at its begin
 abbrev pub at_begin : DataLists → Span → Target → Reached
 at_begin d span target = record { cost = connection d span.left target.lid +ℤ target.cost; before = None }
+
+-- an entry as a target
+abbrev pub target_of : Entry → Target
+target_of e = record { begin = e.begin; lid = e.lid; cost = e.cost }
+
+-- the target is reached from the left id of the span at its begin, and elsewhere by the cheapest arrival
+pub record IsReachedBy (d : DataLists) (span : Span) (xs : List Arrival) (target : Target) (r : Reached) : Type 0 where
+  pub begin : target.begin ≡ span.begin → r ≡ at_begin d span target
+  pub chosen : target.begin ≢ span.begin → (choice : Option Choice) × IsChoice d xs target.lid (length xs) choice × (r ≡ after_choice target.cost choice)

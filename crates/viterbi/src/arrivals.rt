@@ -1,7 +1,7 @@
-ghost use Rattle.std.specs.Prelude.{◌≡◌, ◌≢◌, ℕ, ◌*◌, ◌<◌, ◌+ℤ◌, Option, length, IfOk};
+ghost use Rattle.std.specs.Prelude.{◌≡◌, ℕ, ◌*◌, ◌<◌, ◌≤◌, ◌+ℤ◌, [], length, IfOk};
 ghost use Rattle.conversion_meaning.specs.Bounds.{IsWithin};
-ghost use Rattle.conversion_meaning.specs.Lattices.{IsByEnd, entry};
-ghost use Rattle.viterbi.specs.Arrivals.{AreArrivals, AreSmall, IsCheaper, IsChoice, after_choice, at_begin};
+ghost use Rattle.conversion_meaning.specs.Lattices.{IsByEnd, IsCursor, entry};
+ghost use Rattle.viterbi.specs.Arrivals.{AreAllArrivals, AreSmall, EndBefore, IsCheaper, IsChoice, IsReachedBy};
 ghost use Rattle.viterbi.specs.Table.{most_reached, reached};
 
 use crate::table::{Reached, Target};
@@ -24,32 +24,103 @@ pub struct Choice {
     pub ordinal: u32,
 }
 
-/// The entries of the span that end at the position `to`.
-pub fn arrivals_at(
+/// The entries of a span that end at one position.
+#[derive(Drop)]
+pub struct Arrivals {
+    /// The position.
+    pub to: u16,
+    /// The place in the order of ends from which on entries end behind the position.
+    pub past: usize,
+    pub list: Vec<Arrival>,
+}
+
+/// Those at the begin of a key, where no entry ends.
+pub fn arrivals_at_begin(alloc: Global) -> Arrivals
+    ensures to { result.to ≡ 0 }
+    ensures past { result.past ≡ 0 }
+    ensures none { result.list.items ≡ [] }
+{
+    Arrivals {
+        to: 0,
+        past: 0,
+        list: Vec::new(alloc),
+    }
+}
+
+/// Those at the position `to`, gathered anew only where `here` has those of another one.
+pub fn arrivals_from(
     alloc: Global,
     entries: &[Entry],
     by_end: &[u32],
     table: &[Reached],
     span: &Span,
+    here: Arrivals,
     to: u16,
-) -> Result<Vec<Arrival>, NoMemory>
+) -> Result<Arrivals, NoMemory>
     requires by_end { IsByEnd entries.now by_end.now }
+    requires here { AreAllArrivals entries.now by_end.now span.now table.now here }
+    requires later { here.to ≤ to }
     requires reached { (o : ℕ) → o < length entries.now → (entry entries.now o).end ≡ to → o < length table.now }
     requires small { (o : ℕ) → o < length table.now → IsWithin most_reached (reached table.now o).cost }
-    ensures { IfOk result (λ arrivals. AreArrivals entries.now span.now table.now to arrivals.items) }
+    ensures to { IfOk result (λ there. there.to ≡ to) }
+    ensures all { IfOk result (AreAllArrivals entries.now by_end.now span.now table.now) }
 {
-    let mut arrivals = Vec::new(alloc);
-    for ordinal in by_end {
-        let entry = entries[*ordinal as usize];
-        if entry.end == to && span.begin <= entry.begin {
-            arrivals.push(Arrival {
-                cost: table[*ordinal as usize].cost,
-                ordinal: *ordinal,
+    if here.to == to {
+        return Ok(here);
+    }
+    let low = first_from(entries, by_end, here.past, to);
+    arrivals_at(alloc, entries, by_end, table, span, low, to)
+}
+
+/// The first place from the cursor on whose entry does not end before the position.
+fn first_from(entries: &[Entry], by_end: &[u32], cursor: usize, position: u16) -> usize
+    requires order { IsByEnd entries.now by_end.now }
+    requires within { cursor ≤ length by_end.now }
+    requires before { EndBefore entries.now by_end.now position cursor }
+    ensures { IsCursor entries.now by_end.now position result }
+{
+    for place in cursor..by_end.len() {
+        if entries[by_end[place] as usize].end >= position {
+            return place;
+        }
+    }
+    by_end.len()
+}
+
+/// The entries of the span that end at the position `to`, from its cursor on.
+fn arrivals_at(
+    alloc: Global,
+    entries: &[Entry],
+    by_end: &[u32],
+    table: &[Reached],
+    span: &Span,
+    cursor: usize,
+    to: u16,
+) -> Result<Arrivals, NoMemory>
+    requires by_end { IsByEnd entries.now by_end.now }
+    requires at { IsCursor entries.now by_end.now to cursor }
+    requires reached { (o : ℕ) → o < length entries.now → (entry entries.now o).end ≡ to → o < length table.now }
+    requires small { (o : ℕ) → o < length table.now → IsWithin most_reached (reached table.now o).cost }
+    ensures to { IfOk result (λ there. there.to ≡ to) }
+    ensures all { IfOk result (AreAllArrivals entries.now by_end.now span.now table.now) }
+{
+    let mut list = Vec::new(alloc);
+    for past in cursor..by_end.len() {
+        let ordinal = by_end[past];
+        let entry = entries[ordinal as usize];
+        if entry.end != to {
+            return Ok(Arrivals { to, past, list });
+        }
+        if span.begin <= entry.begin {
+            list.push(Arrival {
+                cost: table[ordinal as usize].cost,
+                ordinal,
                 rid: entry.rid,
             })?;
         }
     }
-    Ok(arrivals)
+    let past = by_end.len();
+    Ok(Arrivals { to, past, list })
 }
 
 /// The target reached from the span's left id at its begin, and elsewhere by the cheapest arrival.
@@ -57,8 +128,7 @@ pub fn reach<D: DataSet>(set: &D, arrivals: &[Arrival], span: &Span, target: &Ta
     requires small { AreSmall (D.lists set.now) arrivals.now }
     requires left { span.now.left < (D.lists set.now).ids }
     requires target { target.now.lid < (D.lists set.now).ids }
-    ensures begin { target.now.begin ≡ span.now.begin → result ≡ at_begin (D.lists set.now) span.now target.now }
-    ensures chosen { target.now.begin ≢ span.now.begin → (choice : Option Choice) × IsChoice (D.lists set.now) arrivals.now target.now.lid (length arrivals.now) choice × (result ≡ after_choice target.now.cost choice) }
+    ensures { IsReachedBy (D.lists set.now) span.now arrivals.now target.now result }
 {
     if target.begin == span.begin {
         let connection = i64::from(set.conn(span.left, target.lid));

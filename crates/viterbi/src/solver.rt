@@ -5,7 +5,7 @@ ghost use Rattle.conversion_meaning.specs.Lattices.{IsWellFormed};
 ghost use Rattle.conversion_meaning.specs.Paths.{IsSpan, path_cost};
 ghost use Rattle.conversion_meaning.specs.Potentials.{AreLeastCosts};
 
-use crate::table::{Target, potentials, reach_from, table_of, trail};
+use crate::table::{potentials, reach_end, table_of, trail};
 use mz_base::{Certificate, DataSet, Lattice, NoMemory, Seq, Span};
 use std::alloc::Global;
 
@@ -14,25 +14,20 @@ pub fn solve<D: DataSet>(
     alloc: Global,
     set: &D,
     lattice: &Lattice,
-    span: Span,
+    span: &Span,
 ) -> Result<Certificate, NoMemory>
     requires well { IsWellFormed (D.lists set.now) lattice.now }
-    requires span { IsSpan (D.lists set.now) lattice.now span }
-    ensures best { IfOk result (λ c. IsBest (D.lists set.now) lattice.now.entries span c.path) }
-    ensures total { IfOk result (λ c. c.total ≡ path_cost (D.lists set.now) lattice.now.entries span c.path) }
-    ensures potentials { IfOk result (λ c. AreLeastCosts (D.lists set.now) lattice.now.entries span c.potentials) }
-    ensures certified { IfOk result (λ c. IsCertificate (claim_of (D.lists set.now) lattice.now.entries span c)) }
+    requires span { IsSpan (D.lists set.now) lattice.now span.now }
+    ensures best { IfOk result (λ c. IsBest (D.lists set.now) lattice.now.entries span.now c.path) }
+    ensures total { IfOk result (λ c. c.total ≡ path_cost (D.lists set.now) lattice.now.entries span.now c.path) }
+    ensures potentials { IfOk result (λ c. AreLeastCosts (D.lists set.now) lattice.now.entries span.now c.potentials) }
+    ensures certified { IfOk result (λ c. IsCertificate (claim_of (D.lists set.now) lattice.now.entries span.now c)) }
     ensures bounds { IfOk result (λ c. c.bounds ≡ lattice.now.bounds) }
 {
-    let table = table_of(alloc, set, lattice, &span)?;
-    let end = Target {
-        begin: span.end,
-        lid: span.right,
-        cost: 0,
-    };
-    let last = reach_from(alloc, set, lattice, &span, table.as_slice(), &end)?;
+    let table = table_of(alloc, set, lattice, span)?;
+    let last = reach_end(alloc, set, lattice, span, table.as_slice())?;
     let path = trail(alloc, table.as_slice(), last.before)?;
-    let costs = potentials(alloc, lattice.entries.as_slice(), table.as_slice(), &span)?;
+    let costs = potentials(alloc, lattice.entries.as_slice(), table.as_slice(), span)?;
     let bounds = Vec::from_slice(alloc, lattice.bounds.as_slice())?;
     Ok(Certificate {
         bounds: Seq::from_vec(bounds),

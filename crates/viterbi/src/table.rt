@@ -1,12 +1,13 @@
-ghost use Rattle.std.specs.Prelude.{◌≡◌, ℕ, ◌<◌, ◌≤◌, ◌++◌, ◌∷◌, [], List, Option, Some, length, map, reverse, IfOk, IfSome};
-ghost use Rattle.mz_base.specs.Data.{AreDataSound};
+ghost use Rattle.std.specs.Prelude.{◌≡◌, ℕ, ◌<◌, pos, true, false, List, Option, Some, length, map, reverse, IfOk, IfSome};
+ghost use Rattle.mz_base.specs.Data.{IsCost};
 ghost use Rattle.conversion_meaning.specs.Bounds.{IsWithin};
-ghost use Rattle.conversion_meaning.specs.Lattices.{IsWellFormed, entry};
+ghost use Rattle.conversion_meaning.specs.Lattices.{IsWellFormed};
 ghost use Rattle.conversion_meaning.specs.Paths.{IsSpan};
 ghost use Rattle.conversion_meaning.specs.Potentials.{is_in, ordinals_in};
-ghost use Rattle.viterbi.specs.Table.{IsReached, IsTable, IsTrail, IsWholeTable, most_reached, reached};
+ghost use Rattle.viterbi.specs.Arrivals.{AreSmall, IsReachedBy, target_of};
+ghost use Rattle.viterbi.specs.Table.{IsReached, IsTrail, IsWholeTable, most_reached, no_reached, reached};
 
-use crate::arrivals::{arrivals_at, reach};
+use crate::arrivals::{Arrival, arrivals_at_begin, arrivals_from, reach};
 use mz_base::{DataSet, Entry, Lattice, NoMemory, Span};
 use std::alloc::Global;
 
@@ -38,67 +39,71 @@ pub fn table_of<D: DataSet>(
     requires span { IsSpan (D.lists set.now) lattice.now span.now }
     ensures { IfOk result (λ table. IsWholeTable (D.lists set.now) lattice.now.entries span.now table.items) }
 {
-    let mut table = Vec::new(alloc);
-    for entry in lattice.entries.as_slice() {
-        let row = row_of(alloc, set, lattice, span, table.as_slice(), entry)?;
-        table.push(row)?;
+    let entries = lattice.entries.as_slice();
+    let by_end = lattice.by_end.as_slice();
+    let mut table = Vec::with_capacity(alloc, entries.len())?;
+    let mut here = arrivals_at_begin(alloc);
+    for next in entries {
+        here = arrivals_from(
+            alloc,
+            entries,
+            by_end,
+            table.as_slice(),
+            span,
+            here,
+            next.begin,
+        )?;
+        table.push(row_of(set, span, here.list.as_slice(), next))?;
     }
     Ok(table)
 }
 
-/// The row of the entry that comes next.
-fn row_of<D: DataSet>(
-    alloc: Global,
-    set: &D,
-    lattice: &Lattice,
-    span: &Span,
-    table: &[Reached],
-    next: &Entry,
-) -> Result<Reached, NoMemory>
-    requires well { IsWellFormed (D.lists set.now) lattice.now }
-    requires span { IsSpan (D.lists set.now) lattice.now span.now }
-    requires table { IsTable (D.lists set.now) lattice.now.entries span.now table.now }
-    requires room { length table.now < length lattice.now.entries }
-    requires next { next.now ≡ entry lattice.now.entries (length table.now) }
-    ensures { IfOk result (λ row. IsTable (D.lists set.now) lattice.now.entries span.now (table.now ++ row ∷ [])) }
+/// The row of the entry that comes next, by the arrivals at its begin.
+fn row_of<D: DataSet>(set: &D, span: &Span, arrivals: &[Arrival], next: &Entry) -> Reached
+    requires small { AreSmall (D.lists set.now) arrivals.now }
+    requires left { span.now.left < (D.lists set.now).ids }
+    requires next { next.now.lid < (D.lists set.now).ids }
+    requires cost { IsCost next.now.cost }
+    ensures inside { is_in span.now next.now ≡ true → IsReachedBy (D.lists set.now) span.now arrivals.now (target_of next.now) result }
+    ensures outside { is_in span.now next.now ≡ false → result ≡ no_reached }
 {
     if !is_in(span, next) {
-        return Ok(Reached {
+        return Reached {
             cost: 0,
             before: None,
-        });
+        };
     }
     let target = Target {
         begin: next.begin,
         lid: next.lid,
         cost: next.cost,
     };
-    reach_from(alloc, set, lattice, span, table, &target)
+    reach(set, arrivals, span, &target)
 }
 
-/// The target reached from the rows of the table.
-pub fn reach_from<D: DataSet>(
+/// The end of the span, reached from a whole table.
+pub fn reach_end<D: DataSet>(
     alloc: Global,
     set: &D,
     lattice: &Lattice,
     span: &Span,
     table: &[Reached],
-    target: &Target,
 ) -> Result<Reached, NoMemory>
     requires well { IsWellFormed (D.lists set.now) lattice.now }
     requires span { IsSpan (D.lists set.now) lattice.now span.now }
-    requires table { IsTable (D.lists set.now) lattice.now.entries span.now table.now }
-    requires fits { length table.now ≤ length lattice.now.entries }
-    requires before { (o : ℕ) → o < length lattice.now.entries → (entry lattice.now.entries o).end ≡ target.now.begin → o < length table.now }
-    requires begin { span.now.begin ≤ target.now.begin }
-    requires end { target.now.begin ≤ span.now.end }
-    requires id { target.now.lid < (D.lists set.now).ids }
-    ensures { IfOk result (λ r. IsReached (D.lists set.now) lattice.now.entries span.now table.now target.now.begin target.now.lid target.now.cost r) }
+    requires table { IsWholeTable (D.lists set.now) lattice.now.entries span.now table.now }
+    ensures { IfOk result (λ r. IsReached (D.lists set.now) lattice.now.entries span.now table.now span.now.end span.now.right (pos 0) r) }
 {
     let entries = lattice.entries.as_slice();
     let by_end = lattice.by_end.as_slice();
-    let arrivals = arrivals_at(alloc, entries, by_end, table, span, target.begin)?;
-    Ok(reach(set, arrivals.as_slice(), span, target))
+    let begin = arrivals_at_begin(alloc);
+    let there = arrivals_from(alloc, entries, by_end, table, span, begin, span.end)?;
+    let end = Target {
+        begin: span.end,
+        lid: span.right,
+        cost: 0,
+    };
+    Ok(reach(set, there.list.as_slice(), span, &end))
 }
 
 fn is_in(span: &Span, entry: &Entry) -> bool

@@ -17,7 +17,7 @@ pub returns-clause-best : goal.returns-clause-best
 returns-clause-best g c =
     let d = g.D.DataSet.lists c.args.set.now in
     let l = c.args.lattice.now in
-    let span = c.args.span in
+    let span = c.args.span.now in
     let table = c.in_ok-table.table.items in
     let r = c.in_ok-last.last in
     let path = c.from_vec-2.result in
@@ -30,7 +30,7 @@ pub returns-clause-total : goal.returns-clause-total
 returns-clause-total g c =
     let d = g.D.DataSet.lists c.args.set.now in
     let l = c.args.lattice.now in
-    let span = c.args.span in
+    let span = c.args.span.now in
     let table = c.in_ok-table.table.items in
     let r = c.in_ok-last.last in
     let path = c.from_vec-2.result in
@@ -49,7 +49,7 @@ pub returns-clause-potentials : goal.returns-clause-potentials
 returns-clause-potentials g c =
     let d = g.D.DataSet.lists c.args.set.now in
     let l = c.args.lattice.now in
-    let span = c.args.span in
+    let span = c.args.span.now in
     let table = c.in_ok-table.table.items in
     let Costs : List Reached → List Entry → Type 0 = λ t es. c.in_ok-costs.costs.items ≡ map (λ o. (reached t o).cost) (ordinals_in es span) in
     let given : Costs c.as_slice-4.result.now c.as_slice-3.result.now = c.in_ok-costs.ensures in
@@ -60,7 +60,7 @@ pub returns-clause-certified : goal.returns-clause-certified
 returns-clause-certified g c =
     let d = g.D.DataSet.lists c.args.set.now in
     let l = c.args.lattice.now in
-    let span = c.args.span in
+    let span = c.args.span.now in
     let table = c.in_ok-table.table.items in
     let r = c.in_ok-last.last in
     let path = c.from_vec-2.result in

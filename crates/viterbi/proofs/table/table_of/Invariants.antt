@@ -1,10 +1,7 @@
-use Rattle.std.proofs.Common.{◌≡◌, length}
-use Rattle.viterbi.specs.Table.{IsTable}
+use Rattle.viterbi.proofs.TableLemmas.{IsSoFar}
 use Rattle.viterbi.proofs.table.table_of.Given as goal
 
--- the table of the entries so far
-abbrev pub invariant-loop-entry : goal.invariant-loop-entry
-invariant-loop-entry g l = record {
-  count : length l.table.items ≡ l.entry-index;
-  is : IsTable (g.D.DataSet.lists l.set) l.lattice.entries l.span l.table.items;
-}
+-- the table of the entries so far, and the arrivals at the begin of the last
+abbrev pub invariant-loop-next : goal.invariant-loop-next
+invariant-loop-next g l =
+    IsSoFar (g.D.DataSet.lists l.set) l.lattice l.span l.here l.table.items l.next-index
