@@ -6,6 +6,8 @@
 mod cursor;
 mod edge;
 mod edges;
+#[cfg(test)]
+mod tests;
 mod verdict;
 mod walk;
 

@@ -114,3 +114,8 @@ IsWellFormed-by_test d key es by_end passes =
 
     up_to : (a b : ℕ) → nat_le a b ≡ true → a ≤ b
     up_to a b is = grind (arith, nat_tests)
+
+-- and so is one that is made of the same lists
+pub IsWellFormed-of : (d : DataLists) (l : Lattice) (key : List ℕ) (es : List Entry) (by_end : List ℕ) → l.key ≡ key → l.bounds ≡ [] → l.entries ≡ es → l.by_end ≡ by_end → is_well d.ids key es by_end ≡ true → IsWellFormed d l
+IsWellFormed-of d l key es by_end key_is bounds_is entries_are by_end_is passes =
+    subst (λ k. IsWellFormed d (record { key = k; bounds = l.bounds; entries = l.entries; by_end = l.by_end })) (sym key_is) (subst (λ b. IsWellFormed d (record { key = key; bounds = b; entries = l.entries; by_end = l.by_end })) (sym bounds_is) (subst (λ x. IsWellFormed d (record { key = key; bounds = []; entries = x; by_end = l.by_end })) (sym entries_are) (subst (λ o. IsWellFormed d (record { key = key; bounds = []; entries = es; by_end = o })) (sym by_end_is) (IsWellFormed-by_test d key es by_end passes))))
