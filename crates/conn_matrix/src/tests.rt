@@ -14,7 +14,7 @@ fn sizes(alloc: Global, bytes: &[u8]) -> Option<Result<(u32, Option<i32>), Fault
 #[test]
 fn reads_the_lines_of_a_file(rt: HostRuntime) {
     let count = |wanted, found| FaultKind::Count { wanted, found };
-    let cases: [(&[u8], Result<(u32, Option<i32>), FaultKind>); 26] = [
+    let cases: [(&[u8], Result<(u32, Option<i32>), FaultKind>); 43] = [
         (b"1\n0\n", Ok((1, Some(0)))),
         (b"\xEF\xBB\xBF1\r\n-7\r\n", Ok((1, Some(-7)))),
         (b"1\n5\n\n\r\n\n", Ok((1, Some(5)))),
@@ -42,6 +42,25 @@ fn reads_the_lines_of_a_file(rt: HostRuntime) {
         (b"2\n0\n12345678901\n", Err(FaultKind::Number(3))),
         // A fault counts before the number of lines.
         (b"1\n0\n0\n0\nx\n", Err(FaultKind::Number(5))),
+        (b"1\n0\n1000001\n", Err(FaultKind::Range(3))),
+        (b"1\n0\n\xFF\n", Err(FaultKind::NotUtf8(3))),
+        (b"2\n0\n0\n0\n0\n\n", Ok((2, Some(0)))),
+        // The size has at most ten digits, a cost too, beside its sign.
+        (b"0000000001\n0\n", Ok((1, Some(0)))),
+        (b"1\n0000000005\n", Ok((1, Some(5)))),
+        (b"1\n00000000005\n", Err(FaultKind::Number(2))),
+        (b"1\n-00000000005\n", Err(FaultKind::Number(2))),
+        (b"1\n9999999999\n", Err(FaultKind::Range(2))),
+        (b"1\n-9999999999\n", Err(FaultKind::Range(2))),
+        (b"1\n99999999999\n", Err(FaultKind::Number(2))),
+        (b"1\n-\n", Err(FaultKind::Number(2))),
+        (b"1\n0\t0\n", Err(FaultKind::Number(2))),
+        // A line that is no text, whatever else it is; its end is no part of a character.
+        (b"9999999\xFF\n", Err(FaultKind::NotUtf8(1))),
+        (b"\xE3\x81\n\x82\n", Err(FaultKind::NotUtf8(1))),
+        (b"2\n0\nx\xFF\n", Err(FaultKind::NotUtf8(3))),
+        (b"2\n0\n9999999\xFF\n", Err(FaultKind::NotUtf8(3))),
+        (b"2\n0\n\xE3\x81\n\x82\n", Err(FaultKind::NotUtf8(3))),
     ];
     for (index, (bytes, wanted)) in cases.into_iter().enumerate() {
         assert_eq!(rt; sizes(rt.alloc(), bytes), Some(wanted), "case {index}");
