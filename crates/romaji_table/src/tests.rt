@@ -13,7 +13,7 @@ fn count_rows(alloc: Global, bytes: &[u8]) -> Option<Result<usize, FaultKind>> {
 
 #[test]
 fn reads_the_lines_of_a_file(rt: HostRuntime) {
-    let cases: [(&[u8], Result<usize, FaultKind>); 24] = [
+    let cases: [(&[u8], Result<usize, FaultKind>); 29] = [
         (b"", Ok(0)),
         (b"\xEF\xBB\xBFka\tx\r\nki\ty", Ok(2)),
         (b"\n\r\na\tx\n\n", Ok(1)),
@@ -43,6 +43,13 @@ fn reads_the_lines_of_a_file(rt: HostRuntime) {
         (b"a\tx\n\r\tx\n", Ok(2)),
         (b"a\r\n", Err(FaultKind::Fields(1))),
         (b"a b\tx\n", Ok(1)),
+        // The end of a line is no part of a character.
+        (b"a\tx\nb\t\xE3\x81\n\x82\n", Err(FaultKind::NotUtf8(2))),
+        (b"#\xE3\x81\n\x82\n", Err(FaultKind::NotUtf8(1))),
+        // Further orders of two faults on one line.
+        (b"\t\xFF\n", Err(FaultKind::NotUtf8(1))),
+        (b"a\t\xFF\ta\n", Err(FaultKind::NotUtf8(1))),
+        (b"a\tx\tyy\tz\n", Err(FaultKind::Fields(1))),
     ];
     for (index, (bytes, wanted)) in cases.into_iter().enumerate() {
         assert_eq!(rt; count_rows(rt.alloc(), bytes), Some(wanted), "case {index}");
@@ -68,11 +75,12 @@ fn many(
 #[test]
 fn keeps_its_limits(rt: HostRuntime) -> Result<(), NoMemory> {
     let long = "あ".as_bytes();
-    let cases: [(&[u8], &[u8], usize, &[u8], Result<usize, FaultKind>); 11] = [
+    let cases: [(&[u8], &[u8], usize, &[u8], Result<usize, FaultKind>); 12] = [
         (b"", b"a", 300, b"\tx\n", Ok(1)),
         (b"", b"a", 301, b"\tx\n", Err(FaultKind::Limit(1))),
         (b"", long, 100, b"\tx\n", Ok(1)),
         (b"", long, 101, b"\tx\n", Err(FaultKind::Limit(1))),
+        (b"a\t", b"x", 300, b"\n", Ok(1)),
         (b"a\t", b"x", 301, b"\n", Err(FaultKind::Limit(1))),
         (b"a\tx\n", b"a\tx\n", 99_999, b"\n#\n", Ok(1)),
         (
@@ -94,6 +102,26 @@ fn keeps_its_limits(rt: HostRuntime) -> Result<(), NoMemory> {
             count_rows(rt.alloc(), bytes.as_slice()),
             Some(wanted),
             "case {index}"
+        );
+    }
+    Ok(())
+}
+
+/// A pending text of 300 bytes and one of 301, after an input that has a character more.
+#[test]
+fn a_pending_text_keeps_its_limit(rt: HostRuntime) -> Result<(), NoMemory> {
+    let cases: [(&[u8], Result<usize, FaultKind>); 3] = [
+        (b"\n", Ok(1)),
+        (b"x\n", Err(FaultKind::Limit(1))),
+        (b"xx\n", Err(FaultKind::LongPending(1))),
+    ];
+    let start = many(rt.alloc(), b"", b"a", 102, b"\tx\t")?;
+    for (rest, wanted) in cases {
+        let bytes = many(rt.alloc(), start.as_slice(), "あ".as_bytes(), 100, rest)?;
+        assert_eq!(rt;
+            count_rows(rt.alloc(), bytes.as_slice()),
+            Some(wanted),
+            "at {rest:?}"
         );
     }
     Ok(())
