@@ -2,3 +2,4 @@ pub mod GroupLemmas
 pub mod IdSlots
 pub mod LatestLemmas
 pub mod NodeLemmas
+pub mod PosLemmas

@@ -1,9 +1,23 @@
 ghost use Rattle.std.specs.Prelude.{◌≡◌, ◌<◌, ℕ, List, Ok};
+ghost use Rattle.mz_base.specs.declared.data.IdRow.{IdRow};
+ghost use Rattle.mz_base.specs.declared.data.PosRow.{PosRow};
 ghost use Rattle.mz_base.specs.declared.data.UnknownRow.{UnknownRow};
 ghost use Rattle.pos_table.specs.Classes.{unknown_rows};
-ghost use Rattle.pos_table.specs.Nodes.{AreNodes};
+ghost use Rattle.pos_table.specs.Ids.{id_rows};
+ghost use Rattle.pos_table.specs.Nodes.{AreIds, AreNodes, ArePosNodes};
+ghost use Rattle.pos_table.specs.UserPos.{pos_rows};
 
 /// The rows that a file of unknown words gives are within their limits.
 pub fn unknown_rows_are_nodes()
     ensures { (ids : ℕ) (bytes : List ℕ) (rows : List UnknownRow) → 0 < ids → unknown_rows ids bytes ≡ Ok rows → AreNodes ids rows }
+{}
+
+/// The ids that an id file gives a feature are there.
+pub fn id_rows_are_ids()
+    ensures { (ids : ℕ) (bytes : List ℕ) (rows : List IdRow) → id_rows ids bytes ≡ Ok rows → AreIds ids rows }
+{}
+
+/// The rows that a file of parts of speech gives are within their limits.
+pub fn pos_rows_are_nodes()
+    ensures { (ids : ℕ) (features : List IdRow) (bytes : List ℕ) (rows : List PosRow) → AreIds ids features → pos_rows features bytes ≡ Ok rows → ArePosNodes ids rows }
 {}
