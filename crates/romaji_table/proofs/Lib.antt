@@ -3,3 +3,4 @@ pub mod InputOrder
 pub mod LatestRules
 pub mod LongestRule
 pub mod RepeatedRows
+pub mod RuleLaws

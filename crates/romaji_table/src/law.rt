@@ -1,9 +1,10 @@
-ghost use Rattle.std.specs.Prelude.{◌≡◌, List, ◌++◌, ◌∷◌, false};
+ghost use Rattle.std.specs.Prelude.{◌≡◌, ℕ, List, ◌++◌, ◌∷◌, Ok, false};
 ghost use Rattle.std.specs.List.{All, Contains, list_any};
-ghost use Rattle.mz_base.specs.Kana.{AreDistinct};
+ghost use Rattle.mz_base.specs.Kana.{AreDistinct, AreRules};
 ghost use Rattle.mz_base.specs.Latest.{latest};
 ghost use Rattle.mz_base.specs.declared.romaji.Rule.{Rule};
 ghost use Rattle.romaji_table.specs.Repeats.{same_input};
+ghost use Rattle.romaji_table.specs.Rows.{romaji_rows};
 
 /// Of repeated inputs the last row holds.
 pub fn law_of_repeats()
@@ -13,4 +14,9 @@ pub fn law_of_repeats()
 
     // A row that no later row repeats is kept.
     ensures last { (before after : List Rule) (row : Rule) → list_any (same_input row) after ≡ false → Contains (latest same_input (before ++ row ∷ after)) row }
+{}
+
+/// The rules that a file gives are those of a table.
+pub fn rows_are_rules()
+    ensures { (bytes : List ℕ) (rules : List Rule) → romaji_rows bytes ≡ Ok rules → AreRules rules }
 {}

@@ -8,7 +8,7 @@ mod reader;
 mod row;
 mod table;
 
-pub use law::law_of_repeats;
+pub use law::{law_of_repeats, rows_are_rules};
 pub use reader::read;
 pub use row::RuleReader;
 pub use table::Table;
