@@ -1,5 +1,5 @@
 -- The ids of an id file and of a file of parts of speech are there, and the costs within their limits.
-use Rattle.std.proofs.Common.{◌≡◌, ℕ, zero, suc, ◌+◌, ◌<◌, ◌≤◌, ℤ, Bool, true, false, cond, eqb, nat_le, List, [], ◌∷◌, Option, Some, None, Result, Ok, Err, length, option_to_list, refl, arith, inl, inr, subst}
+use Rattle.std.proofs.Common.{◌≡◌, ℕ, zero, suc, ◌+◌, ◌<◌, ◌≤◌, ℤ, Bool, true, cond, eqb, nat_le, List, [], ◌∷◌, Option, Some, None, Result, Ok, Err, length, option_to_list, refl, arith, inl, inr, subst}
 use Rattle.std.specs.List.{All, AllByRecursion, filter_map, find, list_any, range_with_len}
 use Rattle.std.specs.Option.{option_map}
 use Rattle.std.specs.Str.{chars, is_utf8}

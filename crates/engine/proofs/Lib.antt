@@ -1,0 +1,4 @@
+pub mod AnswerLemmas
+pub mod SoundData
+pub mod WordSteps
+pub mod FileCounts

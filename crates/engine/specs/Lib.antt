@@ -1,0 +1,5 @@
+pub mod Answers
+pub mod Lists
+pub mod Props
+pub mod Sets
+pub mod Tables
