@@ -1,0 +1,5 @@
+mod AnswerSteps
+mod ManifestSteps
+mod MemoryLaws
+mod SetSteps
+mod SoundLaws

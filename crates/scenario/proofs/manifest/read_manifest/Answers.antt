@@ -1,0 +1,25 @@
+use Rattle.std.proofs.Common.{◌≡◌, ◌≤◌, length, Err, sym, ap, ◌∙◌, arith}
+use Rattle.std.proofs.lemmas.Result.{err_from_is_err_and}
+use Rattle.scenario.specs.Manifests.{manifest_of}
+use Rattle.scenario.proofs.ManifestSteps.{manifest_after-line, manifest_after-end, Gives-refused}
+use Rattle.scenario.proofs.manifest.read_manifest.Goals as goal
+
+pub returns-in_err-read_line-clause-told : goal.returns-in_err-read_line-clause-told
+unfolding manifest_of
+returns-in_err-read_line-clause-told c =
+    let error = err_from_is_err_and c.from_residual-in_err-read_line.result c.from_residual-in_err-read_line.ensures.1 in
+    Gives-refused _ (λ (_ : Unit {0}). c.read_line.new.self) _ _ _ _ (error.1 ∙ ap Err error.2) c.in_err-read_line.ensures.told (λ fault refused. rw (← c.in_ok-lines.ensures, ← c.deref-line-items.ensures.value, ← c.loop-index.invariant.0) (manifest_after-line _ c.deref-line-items.result.now _ _ _ c.loop-index-test.true refused))
+
+pub loop-index-preserved : goal.loop-index-preserved
+loop-index-preserved c = (
+  sym (manifest_after-line _ c.deref-line-items.result.now _ _ _ c.loop-index-test.true c.in_ok-read_line.ensures.told) ∙ c.loop-index.invariant.0,
+  omega (arith, c.in_ok-read_line.ensures.few, c.loop-index.invariant.1),
+)
+
+pub returns-clause-told : goal.returns-clause-told
+unfolding manifest_of
+returns-clause-told c =
+    let past : length c.deref-line-items.result.now ≤ c.loop-index.index = c.loop-index-test.false in
+    let last : c.len.result ≡ c.loop-index.index = omega (arith, c.deref-line-items.ensures.len) in
+    let ends = manifest_after-end c.loop-index.draft c.deref-line-items.result.now _ past in
+    rw (← c.in_ok-lines.ensures, ← c.deref-line-items.ensures.value, ← c.loop-index.invariant.0, ends, ← last) c.finish.ensures.told

@@ -1,0 +1,5 @@
+pub mod Entries
+pub mod ManifestAnswers
+pub mod Manifests
+pub mod Names
+pub mod Sound
