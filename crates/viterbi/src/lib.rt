@@ -5,5 +5,7 @@
 mod arrivals;
 mod solver;
 mod table;
+#[cfg(test)]
+mod tests;
 
 pub use solver::solve;
