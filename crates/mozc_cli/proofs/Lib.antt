@@ -1,2 +1,6 @@
+pub mod LineCounts
+pub mod ListingSteps
 pub mod Runs
 pub mod ScriptSteps
+pub mod SetFiles
+pub mod Settling

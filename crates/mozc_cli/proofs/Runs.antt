@@ -1,17 +1,21 @@
 -- The order of a run is legal and complete, and its play gives the lines and the events that each command gives in turn.
-use Rattle.std.proofs.Common.{◌≡◌, ℕ, Bool, true, false, List, [], ◌∷◌, ◌++◌, Option, Some, None, option_and_then, refl, sym, ap, ◌∙◌, append_assoc, append-nil}
+use Rattle.std.proofs.Common.{◌≡◌, ℕ, Bool, true, false, List, [], ◌∷◌, ◌++◌, Option, Some, None, option_and_then, unwrap_or, refl, sym, ap, ◌∙◌, append_assoc, append-nil}
+use Rattle.mz_base.specs.Data.{DataLists}
 use Rattle.mz_base.specs.declared.event.Event.{Event}
 use Rattle.mz_base.specs.declared.event.Event.TheVariants as event
 use Rattle.mz_base.specs.declared.event.Outcome.TheVariants as outcome
 use Rattle.mz_base.specs.declared.report.Line.{Line}
 use Rattle.mz_base.specs.declared.romaji.Rule.{Rule}
-use Rattle.mozc_cli.specs.Core.{State, start, apply, play_from, play, take_for, client_events, client_lines, run_order}
+use Rattle.mozc_cli.specs.Core.{State, start, apply, play_from, play, take_for, client_events, client_lines, commands_of, run_order}
 use Rattle.mozc_cli.specs.Sessions.{opening, needs_take, step}
+use Rattle.mozc_cli.specs.Settles.{has_differs, run_state, run_output}
+use Rattle.mozc_cli.specs.Texts.{client_name, sections}
 use Rattle.mozc_cli.specs.declared.script.Command.{Command}
 use Rattle.mozc_cli.specs.declared.session.Session.{Session}
 use Rattle.mozc_cli.specs.declared.session.TheConstants.{FIRST_JOB}
 use Rattle.mozc_cli.specs.declared.serving.TheConstants.{FIRST_CLIENT}
-use Rattle.mozc_cli.specs.declared.world.World.{World}
+use Rattle.mozc_cli.specs.Worlds.{World}
+use Rattle.mozc_cli.specs.declared.world.Plan.{Plan}
 
 -- while the client is served
 abbrev pub serving : Session → List Command → List Line → List Event → State
@@ -40,10 +44,21 @@ play-client rules session (command ∷ rest) lines events more =
 -- what stands after a run
 unfoldable pub final : World → State
 final world =
-    record { published = true; closed = true; session = last_session world.table opening world.commands; rest = []; taken = false; ended = true; lines = client_lines world.table opening world.commands; events = run_order world }
+    record { published = true; closed = true; session = last_session world.set.rules opening (commands_of world.client); rest = []; taken = false; ended = true; lines = client_lines world.set.rules opening (commands_of world.client); events = run_order world }
+
+play-order : (user : Option (List ℕ)) (client : Option Plan) (set : DataLists) → play (record { user = user; client = client; set = set }) (run_order (record { user = user; client = client; set = set })) ≡ Some (final (record { user = user; client = client; set = set }))
+unfolding final last_session
+play-order user None set = refl
+play-order user (Some plan) set =
+    play-client set.rules opening plan.commands [] (event.Job FIRST_JOB outcome.Published ∷ []) (event.End FIRST_CLIENT ∷ event.Close ∷ []) ∙ simp append_assoc
 
 -- the order of a run is legal, and leaves that
 pub play-run_order : (world : World) → play world (run_order world) ≡ Some (final world)
-unfolding final
-play-run_order world =
-    play-client world.table opening world.commands [] (event.Job FIRST_JOB outcome.Published ∷ []) (event.End FIRST_CLIENT ∷ event.Close ∷ []) ∙ simp append_assoc
+play-run_order world = play-order world.user world.client world.set
+
+-- a report of those lines and events is the run's output
+pub run_output-is : (world : World) (text : List ℕ) (lines : List Line) (events : List Event) (unmet : Bool) → lines ≡ client_lines world.set.rules opening (commands_of world.client) → events ≡ run_order world → text ≡ sections world.user (client_name world.client) true true lines events → unmet ≡ has_differs (client_lines world.set.rules opening (commands_of world.client)) → record { text = text; unmet = unmet } ≡ run_output world
+unfolding run_state final
+run_output-is world text lines events unmet lines_are events_are text_is unmet_is =
+    let played : run_state world ≡ final world = ap (λ state. unwrap_or state (start world)) (play-run_order world) in
+    rw (text_is, unmet_is, lines_are, events_are, played) refl

@@ -1,5 +1,5 @@
 -- Events, when each is legal, and the order of a run: docs/FORMATS.md, "Events".
-use Rattle.std.specs.Prelude.{◌≡◌, ℕ, ◌==◌, ◌&&◌, Bool, true, false, not, List, [], ◌∷◌, ◌++◌, Option, Some, None, option_and_then, if◌then◌else◌, IsTrue}
+use Rattle.std.specs.Prelude.{◌≡◌, ℕ, ◌==◌, ◌&&◌, Bool, true, false, not, List, [], ◌∷◌, ◌++◌, Option, Some, None, is_none, option_and_then, if◌then◌else◌, IsTrue}
 use Rattle.mz_base.specs.declared.event.Event.{Event}
 use Rattle.mz_base.specs.declared.event.Event.TheVariants as event
 use Rattle.mz_base.specs.declared.event.Outcome.TheVariants as outcome
@@ -10,14 +10,16 @@ use Rattle.mozc_cli.specs.declared.script.Command.{Command}
 use Rattle.mozc_cli.specs.declared.session.Session.{Session}
 use Rattle.mozc_cli.specs.declared.session.TheConstants.{FIRST_JOB}
 use Rattle.mozc_cli.specs.declared.serving.TheConstants.{FIRST_CLIENT}
-use Rattle.mozc_cli.specs.declared.world.World.{World}
+use Rattle.mozc_cli.specs.declared.world.Plan.{Plan}
+use Rattle.mozc_cli.specs.Worlds.{World}
 
--- what stands after some events, with one job, one user and one client
+-- what stands after some events, with one job and at most one user and one client
 pub record State : Type 0 where
   -- the job stands published in the log, and the log is closed
   pub published : Bool
   pub closed : Bool
-  -- the client's session, its commands that are to come, and whether the next one's take has come
+  -- the client's session, its commands that are to come, and whether the next one's take has come; where there is no
+  -- client, nothing is to come, and it counts as ended
   pub session : Session
   pub rest : List Command
   pub taken : Bool
@@ -26,10 +28,15 @@ pub record State : Type 0 where
   pub lines : List Line
   pub events : List Event
 
+-- the commands of the client, where there is one
+abbrev pub commands_of : Option Plan → List Command
+commands_of None = []
+commands_of (Some plan) = plan.commands
+
 -- before any event
 abbrev pub start : World → State
 start world =
-    record { published = false; closed = false; session = opening; rest = world.commands; taken = false; ended = false; lines = []; events = [] }
+    record { published = false; closed = false; session = opening; rest = commands_of world.client; taken = false; ended = is_none world.client; lines = []; events = [] }
 
 -- an event is noted
 abbrev pub noted : Event → State → State
@@ -81,9 +88,9 @@ play_from rules state (event ∷ events) =
     option_and_then (λ next. play_from rules next events) (apply rules state event)
 
 abbrev pub play : World → List Event → Option State
-play world events = play_from world.table (start world) events
+play world events = play_from world.set.rules (start world) events
 
--- the job and each command came, the client ended, and the log is closed
+-- the job and each command came, the client ended, where there is one, and the log is closed
 pub record IsComplete (state : State) : Type 0 where
   pub published : IsTrue state.published
   pub carried_out : state.rest ≡ []
@@ -106,7 +113,11 @@ client_lines rules session [] = []
 client_lines rules session (command ∷ rest) =
     (step rules session command).line ∷ client_lines rules (step rules session command).session rest
 
--- the order of a run: the job, the client's events, its end, and the close of the log
+-- the client's events and its end, and then the close of the log
+abbrev pub after_job : List Rule → Option Plan → List Event
+after_job rules None = event.Close ∷ []
+after_job rules (Some plan) = client_events rules opening plan.commands ++ (event.End FIRST_CLIENT ∷ event.Close ∷ [])
+
+-- the order of a run: the job comes first
 abbrev pub run_order : World → List Event
-run_order world =
-    event.Job FIRST_JOB outcome.Published ∷ (client_events world.table opening world.commands ++ (event.End FIRST_CLIENT ∷ event.Close ∷ []))
+run_order world = event.Job FIRST_JOB outcome.Published ∷ after_job world.set.rules world.client

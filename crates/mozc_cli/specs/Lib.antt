@@ -1,12 +1,13 @@
 pub mod Core
-pub mod ManifestAnswers
-pub mod Manifests
+pub mod DataSets
+pub mod Loaded
 pub mod Printed
+pub mod Reading
 pub mod Reported
 pub mod ScriptAnswers
 pub mod Scripts
+pub mod Served
 pub mod Sessions
 pub mod Settles
 pub mod Texts
-pub mod WorldAnswers
 pub mod Worlds

@@ -1,28 +1,41 @@
 -- What the parts of the top call answer, against what the files mean.
-use Rattle.std.specs.Prelude.{◌≡◌, ⊤, ℕ, Bool, true, false, List, Option, Some, Result, Ok, Err}
+use Rattle.std.specs.Prelude.{◌≡◌, ⊤, ℕ, true, false, List, Option, Result, Ok, Err}
+use Rattle.std.specs.Str.{chars}
 use Rattle.std.specs.String.{string_bytes}
 use Rattle.mz_base.specs.declared.status.Status.{Status}
 use Rattle.mz_base.specs.declared.status.Status.TheVariants as status
 use Rattle.mz_outside.specs.Taken.{with_more, AddsFront}
-use Rattle.mozc_cli.specs.Settles.{run_text, run_differs}
-use Rattle.mozc_cli.specs.Worlds.{IsRefusal}
-use Rattle.mozc_cli.specs.declared.local.Report.{Report}
+use Rattle.mozc_cli.specs.Settles.{Asked, run, check}
+use Rattle.mozc_cli.specs.Settles.{Output as Meant}
+use Rattle.mozc_cli.specs.declared.local.Output.{Output}
+use Rattle.mozc_cli.specs.declared.local.Request.{Request}
 use Rattle.mozc_cli.specs.declared.refusal.Refusal.{Refusal}
-use Rattle.mozc_cli.specs.declared.world.World.{World}
+use Rattle.mozc_cli.specs.declared.refusal.Refusal.TheVariants as refusal
+use Rattle.mozc_cli.specs.declared.local.Request.TheVariants as request
 
--- this is the report of the run of that world
-pub record IsReportOf (report : Report) (world : World) : Type 0 where
-  pub text : run_text world ≡ Some (string_bytes report.text)
-  pub differs : run_differs world ≡ Some report.differs
+-- what a request of the code asks for
+abbrev pub asked_for : Request → Asked
+asked_for (request.Run manifest) = run (chars manifest.now)
+asked_for (request.Check manifest) = check (chars manifest.now)
 
--- the report of what the files mean, or the refusal
-abbrev pub TellsReport : Result Report Refusal → Result World Refusal → Type 0
-TellsReport (Ok report) meant = (world : World) × (meant ≡ Ok world) × IsReportOf report world
-TellsReport (Err refused) meant = IsRefusal refused meant
+-- an output of the code, as what it writes
+abbrev pub shown : Output → Meant
+shown output = record { text = string_bytes output.text; unmet = output.unmet }
 
--- the whole report was written, or a front of it
-abbrev pub WritesReport : Report → Option (List ℕ) → Option (List ℕ) → Status → Type 0
-WritesReport report before after status.Ok = (report.differs ≡ false) × (after ≡ with_more before (string_bytes report.text))
-WritesReport report before after status.Unmet = (report.differs ≡ true) × (after ≡ with_more before (string_bytes report.text))
-WritesReport report before after status.WriteFault = AddsFront before after (string_bytes report.text)
-WritesReport report before after _ = ⊥
+-- an answer is what the command gives, unless a read failed or memory ran out
+abbrev pub TellsMeant : (Result Meant Refusal → Type 0) → Result Output Refusal → Type 0
+TellsMeant Gives (Ok output) = Gives (Ok (shown output))
+TellsMeant Gives (Err (refusal.Absent name)) = Gives (Err (refusal.Absent name))
+TellsMeant Gives (Err (refusal.BadManifest line)) = Gives (Err (refusal.BadManifest line))
+TellsMeant Gives (Err (refusal.BadData set)) = Gives (Err (refusal.BadData set))
+TellsMeant Gives (Err (refusal.TooLarge limit)) = Gives (Err (refusal.TooLarge limit))
+TellsMeant Gives (Err (refusal.Unbuilt name line)) = Gives (Err (refusal.Unbuilt name line))
+TellsMeant Gives (Err refusal.ReadFault) = ⊤
+TellsMeant Gives (Err refusal.Memory) = ⊤
+
+-- the output was written: whole, or a front of it
+abbrev pub Writes : Meant → Option (List ℕ) → Option (List ℕ) → Status → Type 0
+Writes output before after status.Ok = (output.unmet ≡ false) × (after ≡ with_more before output.text)
+Writes output before after status.Unmet = (output.unmet ≡ true) × (after ≡ with_more before output.text)
+Writes output before after status.WriteFault = AddsFront before after output.text
+Writes output before after _ = ⊥

@@ -1,28 +1,45 @@
 -- What the program's answer says, and what it writes: docs/FORMATS.md, "Statuses".
-use Rattle.std.specs.Prelude.{◌≡◌, ⊤, ℕ, Bool, true, false, List, [], ◌∷◌, Option, Some, None, option_map, Result, Ok, Err, if◌then◌else◌, codes, bytes_eq}
+use Rattle.std.specs.Prelude.{◌≡◌, ⊤, ℕ, Bool, true, false, List, [], ◌∷◌, Option, Some, None, unwrap_or, Result, Ok, Err, if◌then◌else◌, codes, bytes_eq, length, nat_lt}
 use Rattle.std.specs.List.{list_any}
 use Rattle.std.specs.Str.{chars}
+use Rattle.mz_base.specs.Answers.{◌>>=◌}
 use Rattle.mz_base.specs.declared.report.Line.{Line}
 use Rattle.mz_base.specs.declared.report.Word.{Word}
 use Rattle.mz_base.specs.declared.report.Word.TheVariants.{Done, Pass, Full, Met, Differs, Awaited, NotYet}
+use Rattle.mz_base.specs.declared.status.Limit.TheVariants.{Report}
 use Rattle.mz_base.specs.declared.status.Status.{Status}
 use Rattle.mz_base.specs.declared.status.Status.TheVariants as status
 use Rattle.mz_outside.specs.Taken.{with_more, AddsFront}
-use Rattle.mozc_cli.specs.Core.{State, play, run_order}
-use Rattle.mozc_cli.specs.Texts.{names_of, report_text}
-use Rattle.mozc_cli.specs.Worlds.{IsRefusal}
+use Rattle.mozc_cli.specs.Core.{State, play, run_order, start}
+use Rattle.mozc_cli.specs.Reading.{Files}
+use Rattle.mozc_cli.specs.Texts.{report_text}
+use Rattle.mozc_cli.specs.Worlds.{World, world, listing}
+use Rattle.mozc_cli.specs.declared.local.TheConstants.{MOST_OUTPUT_BYTES}
 use Rattle.mozc_cli.specs.declared.refusal.Refusal.{Refusal}
 use Rattle.mozc_cli.specs.declared.refusal.Refusal.TheVariants as refusal
-use Rattle.mozc_cli.specs.declared.world.World.{World}
 
--- the manifest that the words name, where they are `run` and one more
-abbrev pub asked : List (List ℕ) → Option (List ℕ)
-asked (command ∷ manifest ∷ []) = if bytes_eq command (codes "run") then Some (chars manifest) else None
+-- what the words of the command line ask for, of the manifest that they name
+pub data Asked : Type 0 where
+  run : List ℕ → Asked
+  check : List ℕ → Asked
+
+-- the command of two words
+abbrev pub asked_of : List ℕ → List ℕ → Option Asked
+asked_of command manifest =
+    if bytes_eq command (codes "run") then Some (run (chars manifest)) else
+    if bytes_eq command (codes "check") then Some (check (chars manifest)) else
+    None
+
+abbrev pub asked : List (List ℕ) → Option Asked
+asked (command ∷ manifest ∷ []) = asked_of command manifest
 asked _ = None
 
 -- a refusal as a status
 abbrev pub status_of : Refusal → Status
 status_of (refusal.Absent name) = status.Absent name
+status_of (refusal.BadManifest line) = status.BadManifest line
+status_of (refusal.BadData set) = status.BadData set
+status_of (refusal.TooLarge limit) = status.TooLarge limit
 status_of (refusal.Unbuilt name line) = status.Unbuilt name line
 status_of refusal.ReadFault = status.ReadFault
 status_of refusal.Memory = status.Memory
@@ -35,45 +52,74 @@ is_differs _ = false
 abbrev pub has_differs : List Line → Bool
 has_differs lines = list_any (λ line. is_differs line.word) lines
 
--- the play of the order of a run
-unfoldable pub run_state : World → Option State
-run_state world = play world (run_order world)
+-- what a command writes, and whether an expectation was not met in it
+pub record Output : Type 0 where
+  pub text : List ℕ
+  pub unmet : Bool
 
--- its report
-abbrev pub run_text : World → Option (List ℕ)
-run_text world = option_map (report_text (names_of world)) (run_state world)
+-- what stands after the play of the order of a run, which is always legal
+unfoldable pub run_state : World → State
+run_state world = unwrap_or (play world (run_order world)) (start world)
 
--- whether an expectation was not met in it
-abbrev pub run_differs : World → Option Bool
-run_differs world = option_map (λ state. has_differs state.lines) (run_state world)
+-- the report of a run
+abbrev pub run_output : World → Output
+run_output world =
+    let state = run_state world in
+    record { text = report_text world state; unmet = has_differs state.lines }
 
--- the files mean a world, and its run meets each expectation, or not
-abbrev pub Runs : Result World Refusal → Bool → Type 0
-Runs meant differs = (world : World) × (meant ≡ Ok world) × (run_differs world ≡ Some differs)
+abbrev pub list_output : List ℕ → Output
+list_output text = record { text = text; unmet = false }
 
--- what a status says of what the files mean; of memory and faults other clauses speak, and the rest does not come
-abbrev pub SettlesAt : Result World Refusal → Status → Type 0
-SettlesAt meant status.Ok = Runs meant false
-SettlesAt meant status.Unmet = Runs meant true
-SettlesAt meant (status.Absent name) = meant ≡ Err (refusal.Absent name)
-SettlesAt meant (status.Unbuilt name line) = meant ≡ Err (refusal.Unbuilt name line)
-SettlesAt meant status.Memory = ⊤
-SettlesAt meant status.ReadFault = ⊤
-SettlesAt meant status.WriteFault = ⊤
-SettlesAt meant _ = ⊥
+-- an output that is not too large
+abbrev pub limited : Output → Result Output Refusal
+limited output = if nat_lt MOST_OUTPUT_BYTES (length output.text) then Err (refusal.TooLarge Report) else Ok output
 
--- the files mean a world, and this holds of the report of its run
-abbrev pub OfReport : Result World Refusal → (List ℕ → Type 0) → Type 0
-OfReport meant P = (world : World) × (text : List ℕ) × (meant ≡ Ok world) × (run_text world ≡ Some text) × P text
+-- what running the client of a manifest gives: the report of its world's run
+abbrev pub run_meant : Files → List ℕ → Result Output Refusal
+run_meant files name = world files name >>= (λ world. limited (run_output world))
 
--- what was written: the report, or after a fault a front of it, or nothing
-abbrev pub WritesAt : Result World Refusal → Option (List ℕ) → Option (List ℕ) → Status → Type 0
-WritesAt meant before after status.Ok = OfReport meant (λ text. after ≡ with_more before text)
-WritesAt meant before after status.Unmet = OfReport meant (λ text. after ≡ with_more before text)
-WritesAt meant before after status.WriteFault = OfReport meant (AddsFront before after)
-WritesAt meant before after _ = after ≡ before
+-- what checking a manifest gives: the listing of its data sets
+abbrev pub check_meant : Files → List ℕ → Result Output Refusal
+check_meant files name = listing files name >>= (λ text. limited (list_output text))
 
--- nothing was written, except of a report
+-- What a command gives: what it writes, or the first refusal in the order of work.
+abbrev pub Means : Files → Asked → Result Output Refusal → Type 0
+Means files (run name) meant = meant ≡ run_meant files name
+Means files (check name) meant = meant ≡ check_meant files name
+
+-- the output was written whole, and each expectation is met in it, or not
+pub record IsWritten (Gives : Result Output Refusal → Type 0) (unmet : Bool) (before after : Option (List ℕ)) : Type 0 where
+  pub text : List ℕ
+  pub gives : Gives (Ok (record { text = text; unmet = unmet }))
+  pub written : after ≡ with_more before text
+
+-- a front of the output was written
+pub record IsCutShort (Gives : Result Output Refusal → Type 0) (before after : Option (List ℕ)) : Type 0 where
+  pub output : Output
+  pub gives : Gives (Ok output)
+  pub front : AddsFront before after output.text
+
+-- the command is refused, and nothing was written
+pub record IsRefused (Gives : Result Output Refusal → Type 0) (refused : Refusal) (before after : Option (List ℕ)) : Type 0 where
+  pub gives : Gives (Err refused)
+  pub silent : after ≡ before
+
+-- What a status says of what the command gives, and what was written. Of memory and faults other clauses say when they come;
+-- the statuses that are not named do not come.
+abbrev pub Settles : (Result Output Refusal → Type 0) → Option (List ℕ) → Option (List ℕ) → Status → Type 0
+Settles Gives before after status.Ok = IsWritten Gives false before after
+Settles Gives before after status.Unmet = IsWritten Gives true before after
+Settles Gives before after status.WriteFault = IsCutShort Gives before after
+Settles Gives before after (status.Absent name) = IsRefused Gives (refusal.Absent name) before after
+Settles Gives before after (status.BadManifest line) = IsRefused Gives (refusal.BadManifest line) before after
+Settles Gives before after (status.BadData set) = IsRefused Gives (refusal.BadData set) before after
+Settles Gives before after (status.TooLarge limit) = IsRefused Gives (refusal.TooLarge limit) before after
+Settles Gives before after (status.Unbuilt name line) = IsRefused Gives (refusal.Unbuilt name line) before after
+Settles Gives before after status.Memory = after ≡ before
+Settles Gives before after status.ReadFault = after ≡ before
+Settles Gives before after _ = ⊥
+
+-- nothing was written, except of an output
 abbrev pub IsSilent : Option (List ℕ) → Option (List ℕ) → Status → Type 0
 IsSilent before after status.Ok = ⊤
 IsSilent before after status.Unmet = ⊤

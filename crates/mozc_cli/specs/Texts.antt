@@ -1,5 +1,5 @@
 -- The text of a report: docs/FORMATS.md, "Report".
-use Rattle.std.specs.Prelude.{ℕ, ◌+◌, Bool, List, [], ◌∷◌, ◌++◌, if◌then◌else◌, codes, encode_utf8_all}
+use Rattle.std.specs.Prelude.{ℕ, ◌+◌, ◌&&◌, Bool, not, List, [], ◌∷◌, ◌++◌, Option, Some, None, is_none, unwrap_or, if◌then◌else◌, codes, encode_utf8_all}
 use Rattle.std.specs.List.{flat_map}
 use Rattle.std.specs.Fmt.{decimal}
 use Rattle.mz_base.specs.Reports.{word_text, mode_text, outcome_text}
@@ -7,9 +7,10 @@ use Rattle.mz_base.specs.declared.event.Event.{Event}
 use Rattle.mz_base.specs.declared.event.Event.TheVariants as event
 use Rattle.mz_base.specs.declared.report.Line.{Line}
 use Rattle.mozc_cli.specs.Core.{State}
-use Rattle.mozc_cli.specs.declared.world.World.{World}
+use Rattle.mozc_cli.specs.Worlds.{World}
+use Rattle.mozc_cli.specs.declared.world.Plan.{Plan}
 
--- the names in a report: the one client's and the one user's
+-- the names in a report: the one client's and the one user's, empty where there is none
 pub record Names : Type 0 where
   pub client : List ℕ
   pub user : List ℕ
@@ -56,10 +57,26 @@ journal_section names ended =
 abbrev pub schedule_section : Names → List Event → List ℕ
 schedule_section names events = codes "schedule\n" ++ flat_map (event_text names) events
 
--- the four sections of a report
-abbrev pub report_text : Names → State → List ℕ
-report_text names state =
-    client_section names state.lines ++ (jobs_section state.published ++ (journal_section names state.ended ++ schedule_section names state.events))
+-- the names, where there are such
+abbrev pub names_of : Option (List ℕ) → Option (List ℕ) → Names
+names_of user client = record { client = unwrap_or client []; user = unwrap_or user [] }
 
-abbrev pub names_of : World → Names
-names_of world = record { client = world.client; user = world.user }
+-- a section, where there is what it tells of
+abbrev pub where_some : Option (List ℕ) → List ℕ → List ℕ
+where_some None text = []
+where_some (Some name) text = text
+
+-- the sections of a report: the client's and the user's where there are such
+abbrev pub sections : Option (List ℕ) → Option (List ℕ) → Bool → Bool → List Line → List Event → List ℕ
+sections user client published ended lines events =
+    let names = names_of user client in
+    where_some client (client_section names lines) ++ (jobs_section published ++ (where_some user (journal_section names (ended && not (is_none client))) ++ schedule_section names events))
+
+-- the name of a client
+abbrev pub client_name : Option Plan → Option (List ℕ)
+client_name None = None
+client_name (Some plan) = Some plan.name
+
+abbrev pub report_text : World → State → List ℕ
+report_text world state =
+    sections world.user (client_name world.client) state.published state.ended state.lines state.events

@@ -1,23 +1,31 @@
-ghost use Rattle.std.specs.Prelude.{◌≡◌, ◌≢◌, ◌↔◌, ℕ, List, map, Some, None, Err, IfOk, option_map};
+ghost use Rattle.std.specs.Prelude.{◌≡◌, ◌≢◌, ◌↔◌, map, Some, None, Err, IfOk, option_map};
+ghost use Rattle.std.specs.Option.{option_copied};
 ghost use Rattle.std.specs.Str.{chars};
 ghost use Rattle.std.specs.String.{string_bytes};
 ghost use Rattle.mz_outside.specs.Causes.{Rose};
-ghost use Rattle.mozc_cli.specs.Reported.{TellsReport, WritesReport};
-ghost use Rattle.mozc_cli.specs.Settles.{SettlesAt, WritesAt, IsSilent, asked, has_differs, run_text, run_differs, status_of};
-ghost use Rattle.mozc_cli.specs.Worlds.{Files, world};
+ghost use Rattle.mozc_cli.specs.Loaded.{world_of};
+ghost use Rattle.mozc_cli.specs.Reading.{Files, Tells, IsRefusal};
+ghost use Rattle.mozc_cli.specs.Reported.{asked_for, shown, TellsMeant, Writes};
+ghost use Rattle.mozc_cli.specs.Settles.{Asked, run, check, Means, Settles, IsSilent, asked, asked_of, has_differs, run_output, run_meant, check_meant, limited, status_of};
+ghost use Rattle.mozc_cli.specs.Texts.{client_name};
 
-use crate::print::{Named, print};
+use crate::print::print;
 use crate::refusal::Refusal;
 use crate::serving::serve;
-use crate::world::{World, read_world};
-use mz_base::{Line, NoMemory, Status, Text, Word};
+use crate::world::{Loaded, Plan, read_listing, read_world};
+use engine::Engine;
+use mz_base::{DataSet, Limit, Line, NoMemory, Status, Text, Word};
 use mz_outside::{Sink, Store, write_all};
 use std::alloc::Global;
 
-/// Carries out a command of the program. `run M` runs the client of the manifest M and writes the report.
+/// The most bytes of an output.
+pub const MOST_OUTPUT_BYTES: usize = 1 << 30;
+
+/// Carries out a command of the program. `run M` runs the client of the manifest M and writes the report; `check M` reads
+/// all data of the manifest M and lists its data sets.
 ///
-/// Files are read in the order of work: the manifest, the script, the romaji table. After a refusal nothing was
-/// written. Want of memory may stand in place of any answer but `Usage`.
+/// Files are read in the order of work: the manifest, the script, the data files. After a refusal nothing was written.
+/// Want of memory may stand in place of any answer but `Usage`.
 pub fn local<S: Store, K: Sink>(
     alloc: Global,
     words: &[String],
@@ -27,13 +35,10 @@ pub fn local<S: Store, K: Sink>(
     // `Usage` comes exactly where the words are no command.
     ensures usage { (result ≡ Status.Usage) ↔ (asked (map string_bytes words.now) ≡ None) }
 
-    // Where the store tells its files, each other status says what they mean.
-    ensures settled { (files : Files) (name : List ℕ) → S.files store.old ≡ Some files → asked (map string_bytes words.now) ≡ Some name →
-        SettlesAt (world files name) result }
-
-    // And what was written is the report of the one-thread run, in the order that it prints.
-    ensures report { (files : Files) (name : List ℕ) → S.files store.old ≡ Some files → asked (map string_bytes words.now) ≡ Some name →
-        WritesAt (world files name) (K.bytes sink.old) (K.bytes sink.new) result }
+    // Where the store tells its files, each other status says what they give, and what was written is that: of `run`, the
+    // report of the one-thread run in the order that it prints.
+    ensures settled { (files : Files) (request : Asked) → S.files store.old ≡ Some files → asked (map string_bytes words.now) ≡ Some request →
+        Settles (Means files request) (K.bytes sink.old) (K.bytes sink.new) result }
 
     // A refused call writes nothing, whatever the store tells.
     ensures silent { IsSilent (K.bytes sink.old) (K.bytes sink.new) result }
@@ -44,78 +49,137 @@ pub fn local<S: Store, K: Sink>(
     ensures same { S.files store.new ≡ S.files store.old }
 {
     match asked(words) {
-        Some(name) => run(alloc, name, store, sink),
+        Some(request) => answer(alloc, request, store, sink),
         None => Status::Usage,
     }
 }
 
-fn asked(words: &[String]) -> Option<&str>
-    ensures { option_map (λ name. chars name.now) result ≡ asked (map string_bytes words.now) }
+/// What the words ask for.
+#[derive(Clone, Copy)]
+enum Request<'a> {
+    /// To run the client of a manifest.
+    Run(&'a str),
+    /// To list the data sets of a manifest.
+    Check(&'a str),
+}
+
+fn asked(words: &[String]) -> Option<Request<'_>>
+    ensures { option_map asked_for result ≡ asked (map string_bytes words.now) }
 {
     match words {
-        [command, manifest] => {
-            if command.as_str() == "run" {
-                Some(manifest.as_str())
-            } else {
-                None
-            }
-        }
+        [command, manifest] => asked_of(command.as_str(), manifest.as_str()),
         _ => None,
     }
 }
 
-fn run<S: Store, K: Sink>(alloc: Global, name: &str, store: &mut S, sink: &mut K) -> Status
+fn asked_of<'a>(command: &str, manifest: &'a str) -> Option<Request<'a>>
+    ensures { option_map asked_for result ≡ asked_of command.now manifest.now }
+{
+    if command == "run" {
+        return Some(Request::Run(manifest));
+    }
+    if command == "check" {
+        return Some(Request::Check(manifest));
+    }
+    None
+}
+
+fn answer<S: Store, K: Sink>(
+    alloc: Global,
+    request: Request<'_>,
+    store: &mut S,
+    sink: &mut K,
+) -> Status
     ensures usage { result ≢ Status.Usage }
-    ensures settled { (files : Files) → S.files store.old ≡ Some files → SettlesAt (world files (chars name.now)) result }
-    ensures report { (files : Files) → S.files store.old ≡ Some files →
-        WritesAt (world files (chars name.now)) (K.bytes sink.old) (K.bytes sink.new) result }
+    ensures settled { (files : Files) → S.files store.old ≡ Some files → Settles (Means files (asked_for request.entry)) (K.bytes sink.old) (K.bytes sink.new) result }
     ensures silent { IsSilent (K.bytes sink.old) (K.bytes sink.new) result }
     ensures read_fault { result ≡ Status.ReadFault → Rose (S.faults store.old) (S.faults store.new) }
     ensures write_fault { result ≡ Status.WriteFault → Rose (K.faults sink.old) (K.faults sink.new) }
     ensures same { S.files store.new ≡ S.files store.old }
 {
-    match report_in(alloc, store, name) {
-        Ok(report) => written(&report, sink),
+    match output_for(alloc, store, request) {
+        Ok(output) => written(&output, sink),
         Err(refusal) => refused(refusal),
     }
 }
 
-/// The text of a report, and whether a line of it says that an expectation differs.
+/// What a command writes, and whether an expectation was not met in it.
 #[derive(Drop)]
-struct Report {
+struct Output {
     text: String,
-    differs: bool,
+    unmet: bool,
 }
 
-fn report_in<S: Store>(alloc: Global, store: &mut S, name: &str) -> Result<Report, Refusal>
-    ensures told { (files : Files) → S.files store.old ≡ Some files → TellsReport result (world files (chars name.now)) }
+fn output_for<S: Store>(
+    alloc: Global,
+    store: &mut S,
+    request: Request<'_>,
+) -> Result<Output, Refusal>
+    ensures told { (files : Files) → S.files store.old ≡ Some files → TellsMeant (Means files (asked_for request.entry)) result }
+    ensures same { S.files store.new ≡ S.files store.old }
+    ensures fault { result ≡ Err Refusal.ReadFault → Rose (S.faults store.old) (S.faults store.new) }
+{
+    match request {
+        Request::Run(name) => report_in(alloc, store, name),
+        Request::Check(name) => listing_in(alloc, store, name),
+    }
+}
+
+fn report_in<S: Store>(alloc: Global, store: &mut S, name: &str) -> Result<Output, Refusal>
+    ensures told { (files : Files) → S.files store.old ≡ Some files → Tells shown result (run_meant files (chars name.now)) }
     ensures same { S.files store.new ≡ S.files store.old }
     ensures fault { result ≡ Err Refusal.ReadFault → Rose (S.faults store.old) (S.faults store.new) }
 {
     let name = Text::from_str(alloc, name)?;
     let world = read_world(alloc, store, &name)?;
-    Ok(report_of(alloc, &world)?)
+    limited(report_of(alloc, &world)?)
 }
 
-fn report_of(alloc: Global, world: &World) -> Result<Report, NoMemory>
-    ensures text { IfOk result (λ report. run_text world.now ≡ Some (string_bytes report.text)) }
-    ensures differs { IfOk result (λ report. run_differs world.now ≡ Some report.differs) }
+fn listing_in<S: Store>(alloc: Global, store: &mut S, name: &str) -> Result<Output, Refusal>
+    ensures told { (files : Files) → S.files store.old ≡ Some files → Tells shown result (check_meant files (chars name.now)) }
+    ensures same { S.files store.new ≡ S.files store.old }
+    ensures fault { result ≡ Err Refusal.ReadFault → Rose (S.faults store.old) (S.faults store.new) }
 {
-    let served = serve(alloc, world)?;
-    let names = Named {
-        client: &world.client,
-        user: &world.user,
-    };
+    let name = Text::from_str(alloc, name)?;
+    let text = read_listing(alloc, store, &name)?;
+    limited(Output { text, unmet: false })
+}
+
+fn limited(output: Output) -> Result<Output, Refusal>
+    ensures told { Tells shown result (limited (shown output)) }
+    ensures reads_nothing { result ≢ Err Refusal.ReadFault }
+{
+    if MOST_OUTPUT_BYTES < output.text.len() {
+        return Err(Refusal::TooLarge(Limit::Report));
+    }
+    Ok(output)
+}
+
+fn report_of(alloc: Global, world: &Loaded) -> Result<Output, NoMemory>
+    ensures { IfOk result (λ output. shown output ≡ run_output (world_of world.now (⟦<Engine as DataSet>⟧.lists world.now.set))) }
+{
+    let client = world.client.as_ref();
+    let served = serve(alloc, &world.set, client)?;
     let text = print(
         alloc,
-        names,
+        world.user.as_ref(),
+        name_of(client),
         served.lines.as_slice(),
         served.events.as_slice(),
     )?;
-    Ok(Report {
+    Ok(Output {
         text,
-        differs: has_differs(served.lines.as_slice()),
+        unmet: has_differs(served.lines.as_slice()),
     })
+}
+
+fn name_of(client: Option<&Plan>) -> Option<&Text>
+    ensures { option_copied result ≡ client_name (option_copied client.entry) }
+{
+    match client {
+        Some(plan) => Some(&plan.name),
+        None => None,
+    }
 }
 
 fn has_differs(lines: &[Line]) -> bool
@@ -124,14 +188,14 @@ fn has_differs(lines: &[Line]) -> bool
     lines.iter().any(|line| line.word == Word::Differs)
 }
 
-fn written<K: Sink>(report: &Report, sink: &mut K) -> Status
-    ensures writes { WritesReport report.now (K.bytes sink.old) (K.bytes sink.new) result }
+fn written<K: Sink>(output: &Output, sink: &mut K) -> Status
+    ensures writes { Writes (shown output.now) (K.bytes sink.old) (K.bytes sink.new) result }
     ensures write_fault { result ≡ Status.WriteFault → Rose (K.faults sink.old) (K.faults sink.new) }
 {
-    if write_all(sink, report.text.as_bytes()).is_err() {
+    if write_all(sink, output.text.as_bytes()).is_err() {
         return Status::WriteFault;
     }
-    if report.differs {
+    if output.unmet {
         Status::Unmet
     } else {
         Status::Ok
@@ -143,6 +207,9 @@ fn refused(refusal: Refusal) -> Status
 {
     match refusal {
         Refusal::Absent(name) => Status::Absent(name),
+        Refusal::BadManifest(line) => Status::BadManifest(line),
+        Refusal::BadData(set) => Status::BadData(set),
+        Refusal::TooLarge(limit) => Status::TooLarge(limit),
         Refusal::Unbuilt(name, line) => Status::Unbuilt(name, line),
         Refusal::ReadFault => Status::ReadFault,
         Refusal::Memory => Status::Memory,

@@ -1,15 +1,17 @@
-//! The Sockflint program: runs a manifest's client and writes the report. Start at [`local`].
+//! The Sockflint program: runs a manifest's client and writes the report, or lists its data sets. Start at [`local`].
 //! What a run is: specs/Core.antt; what files mean: specs/Worlds.antt; what an answer says: specs/Settles.antt.
 #![tactic(auto)]
 
 mod laws;
 mod local;
-mod manifest;
 mod print;
+mod reading;
 mod refusal;
 mod script;
+mod served;
 mod serving;
 mod session;
+mod sets;
 #[cfg(test)]
 mod tests;
 mod world;
@@ -23,7 +25,9 @@ use std::rt::{Env, Files};
 use std::{env, io};
 
 const HELP: &str = "mozc_cli run MANIFEST
-Runs the client of the manifest and writes the report on standard output.";
+Runs the client of the manifest and writes the report on standard output.
+mozc_cli check MANIFEST
+Reads all data of the manifest and lists its data sets.";
 
 const VERSION: &str = "mozc_cli 0.1.0";
 

@@ -1,31 +1,43 @@
 ghost use Rattle.std.specs.Prelude.{◌≡◌, ◌++◌, IfOk, OnOk, true};
 ghost use Rattle.std.specs.List.{flat_map};
+ghost use Rattle.std.specs.Option.{option_copied};
 ghost use Rattle.std.specs.String.{string_bytes};
 ghost use Rattle.mozc_cli.specs.Printed.{shown_names};
-ghost use Rattle.mozc_cli.specs.Texts.{tabbed, line_text, lines_text, event_text, client_section, jobs_section, journal_section, schedule_section};
+ghost use Rattle.mozc_cli.specs.Texts.{tabbed, line_text, lines_text, event_text, client_section, journal_section, schedule_section, sections};
 
 use mz_base::{Event, Line, NoMemory, Text};
 use std::alloc::Global;
 
-/// The names in a report: the one client's and the one user's.
+/// The names in a report: the one client's and the one user's, empty where there is none.
 #[derive(Clone, Copy)]
 pub struct Named<'a> {
     pub client: &'a Text,
     pub user: &'a Text,
 }
 
-/// The report of a run that is complete.
+/// The report of a run that is complete, with the sections of its client and its user where there are such.
 pub fn print(
     alloc: Global,
-    names: Named<'_>,
+    user: Option<&Text>,
+    client: Option<&Text>,
     lines: &[Line],
     events: &[Event],
 ) -> Result<String, NoMemory>
-    ensures { IfOk result (λ text. string_bytes text ≡ client_section (shown_names names.entry) lines.now ++ (jobs_section true ++ (journal_section (shown_names names.entry) true ++ schedule_section (shown_names names.entry) events.now))) }
+    ensures { IfOk result (λ text. string_bytes text ≡ sections (option_copied user.entry) (option_copied client.entry) true true lines.now events.now) }
 {
+    let nobody = Text::from_vec(Vec::new(alloc));
+    let names = Named {
+        client: client.unwrap_or(&nobody),
+        user: user.unwrap_or(&nobody),
+    };
     let mut out = String::new(alloc);
-    print_client(&mut out, names, lines)?;
-    print_logs(&mut out, names)?;
+    if client.is_some() {
+        print_client(&mut out, names, lines)?;
+    }
+    write!(&mut out, "jobs\njob\t1\tpublished\n")?;
+    if user.is_some() {
+        print_journal(&mut out, names, client.is_some())?;
+    }
     print_schedule(&mut out, names, events)?;
     Ok(out)
 }
@@ -54,11 +66,13 @@ fn print_line(out: &mut String, number: u64, line: &Line) -> Result<(), NoMemory
     Ok(())
 }
 
-fn print_logs(out: &mut String, names: Named<'_>) -> Result<(), NoMemory>
-    ensures { OnOk result (string_bytes out.new ≡ string_bytes out.old ++ (jobs_section true ++ journal_section (shown_names names.entry) true)) }
+fn print_journal(out: &mut String, names: Named<'_>, ended: bool) -> Result<(), NoMemory>
+    ensures { OnOk result (string_bytes out.new ≡ string_bytes out.old ++ journal_section (shown_names names.entry) ended) }
 {
-    write!(out, "jobs\njob\t1\tpublished\n")?;
-    write!(out, "journal\t{}\nend\t{}\t0\n", names.user, names.client)?;
+    write!(out, "journal\t{}\n", names.user)?;
+    if ended {
+        write!(out, "end\t{}\t0\n", names.client)?;
+    }
     Ok(())
 }
 

@@ -1,13 +1,18 @@
 ghost use Rattle.std.specs.Prelude.{◌≡◌};
 
-use mz_base::{NoMemory, Text};
-use std::alloc::AllocError;
+use mz_base::{BadSet, Limit, NoMemory, Text};
+use std::alloc::{AllocError, AllocFailed};
 
-/// Why a run does not begin.
+/// Why a command writes nothing.
 #[derive(Drop)]
 pub enum Refusal {
     /// A file that is not there, by name.
     Absent(Text),
+    /// The line of the manifest.
+    BadManifest(u64),
+    /// The first data set that does not read.
+    BadData(BadSet),
+    TooLarge(Limit),
     /// A file, and the line whose form is not built.
     Unbuilt(Text, u64),
     ReadFault,
@@ -30,6 +35,16 @@ impl From<AllocError> for Refusal {
     ghost from_gives = { λ _ e. e ≡ Memory };
 
     fn from(_error: AllocError) -> Refusal {
+        Refusal::Memory
+    }
+}
+
+impl<T: Drop> From<AllocFailed<T>> for Refusal {
+    ghost use Rattle.mozc_cli.specs.declared.refusal.Refusal.TheVariants.{Memory};
+
+    ghost from_gives = { λ _ e. e ≡ Memory };
+
+    fn from(_error: AllocFailed<T>) -> Refusal {
         Refusal::Memory
     }
 }

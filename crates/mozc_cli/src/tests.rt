@@ -29,9 +29,11 @@ end\tc1
 close
 ";
 
-fn words(alloc: Global) -> Result<Vec<String>, AllocError> {
+const LISTING: &str = "set\tk\t1\t0\t2\n";
+
+fn words(alloc: Global, command: &str) -> Result<Vec<String>, AllocError> {
     let mut words = Vec::new(alloc);
-    words.push(String::from_str(alloc, "run")?)?;
+    words.push(String::from_str(alloc, command)?)?;
     words.push(String::from_str(alloc, "m")?)?;
     Ok(words)
 }
@@ -49,7 +51,7 @@ fn store(alloc: Global, failing: u64) -> Result<MemoryStore, AllocError> {
 #[test]
 fn a_read_that_fails_is_a_read_fault(rt: HostRuntime) -> Result<(), Fail> {
     let alloc = rt.alloc();
-    let words = words(alloc)?;
+    let words = words(alloc, "run")?;
     for failing in 1..5 {
         let mut store = store(alloc, failing)?;
         let mut sink = MemorySink::new(alloc, 1000);
@@ -65,7 +67,7 @@ fn a_read_that_fails_is_a_read_fault(rt: HostRuntime) -> Result<(), Fail> {
 #[test]
 fn a_write_that_fails_leaves_a_front_of_the_report(rt: HostRuntime) -> Result<(), Fail> {
     let alloc = rt.alloc();
-    let words = words(alloc)?;
+    let words = words(alloc, "run")?;
     let report = REPORT.as_bytes();
     for failing in 1..220 {
         let mut store = store(alloc, 0)?;
@@ -86,9 +88,37 @@ fn a_write_that_fails_leaves_a_front_of_the_report(rt: HostRuntime) -> Result<()
 }
 
 #[test]
+fn a_listing_is_refused_or_written_like_a_report(rt: HostRuntime) -> Result<(), Fail> {
+    let alloc = rt.alloc();
+    let words = words(alloc, "check")?;
+    let listing = LISTING.as_bytes();
+    for failing in 1..4 {
+        let mut store = store(alloc, failing)?;
+        let mut sink = MemorySink::new(alloc, 1000);
+        let status = local(alloc, words.as_slice(), &mut store, &mut sink);
+        // It reads the manifest and the table, and no script.
+        let wanted = if failing < 3 { 3 } else { 0 };
+        let bytes = if failing < 3 { 0 } else { listing.len() };
+        assert_eq!(rt; status.number(), wanted, "at read {failing}");
+        assert_eq!(rt; sink.as_slice().len(), bytes, "at read {failing}");
+    }
+    for failing in 1..16 {
+        let mut store = store(alloc, 0)?;
+        let mut sink = MemorySink::new(alloc, 1);
+        sink.fail_at(failing)?;
+        let status = local(alloc, words.as_slice(), &mut store, &mut sink);
+        let before = failing as usize - 1;
+        let wanted = if before < listing.len() { 4 } else { 0 };
+        assert_eq!(rt; status.number(), wanted, "at write {failing}");
+        assert!(rt; listing.starts_with(sink.as_slice()), "at write {failing}");
+    }
+    Ok(())
+}
+
+#[test]
 fn nothing_is_there(rt: HostRuntime) -> Result<(), Fail> {
     let alloc = rt.alloc();
-    let words = words(alloc)?;
+    let words = words(alloc, "run")?;
     let mut store = SureStore::new(alloc);
     let mut sink = SureSink::new();
     let status = local(alloc, words.as_slice(), &mut store, &mut sink);
