@@ -1,4 +1,5 @@
 use super::*;
+use mz_base::FaultKind::{Empty, Fields, Limit, NoFeature, NotUtf8, Number, Range};
 use mz_base::{Class, FaultKind, NoMemory, ReadError, Text};
 use std::alloc::Global;
 
@@ -163,4 +164,302 @@ fn joined(alloc: Global, texts: &[Text]) -> Result<Vec<char>, NoMemory> {
         letters.extend_from_slice(text.as_chars())?;
     }
     Ok(letters)
+}
+
+/// The files that are read here.
+#[derive(Clone, Copy, Debug)]
+enum File {
+    Ids,
+    Unknown,
+    Segments,
+    Parts,
+    Symbols,
+    Kanji,
+}
+
+/// The number of rows that a file gives where there are 10 ids, or its fault.
+fn count_rows(alloc: Global, file: File, bytes: &[u8]) -> Option<Result<usize, FaultKind>> {
+    outcome(match file {
+        File::Ids => read_ids(alloc, bytes, 10).map(|ids| ids.rows().len()),
+        File::Unknown => read_unknown(alloc, bytes, 10).map(|unknown| unknown.rows().len()),
+        File::Segments => read_joins(alloc, bytes, 10).map(|joins| joins.rows().len()),
+        File::Parts => count_parts(alloc, bytes),
+        File::Symbols => read_symbols(alloc, bytes).map(|symbols| symbols.rows().len()),
+        File::Kanji => read_kanji(alloc, bytes).map(|kanji| kanji.rows().len()),
+    })
+}
+
+fn count_parts(alloc: Global, bytes: &[u8]) -> Result<usize, ReadError> {
+    let ids = read_ids(alloc, b"4 noun\n3 noun\n5 verb\n", 10)?;
+    Ok(read_user_pos(alloc, bytes, &ids)?.rows().len())
+}
+
+#[test]
+fn takes_what_is_within_its_limits(rt: HostRuntime) {
+    let cases: [(File, &[u8], usize); 22] = [
+        // A byte order mark, CRLF, an empty line, and no line feed at the end.
+        (File::Ids, b"\xEF\xBB\xBF1 a\r\n\r\n2 b", 2),
+        (
+            File::Unknown,
+            b"\xEF\xBB\xBFDIGIT\t1\t0\r\n\r\nOTHER\t1\t0",
+            5,
+        ),
+        (
+            File::Segments,
+            b"\xEF\xBB\xBF1\t2\t3\t4\r\n\r\n1\t2\t3\t4",
+            2,
+        ),
+        (File::Parts, b"\xEF\xBB\xBFn\tnoun\t5\r\n\r\nv\tverb\t5", 2),
+        (File::Symbols, b"\xEF\xBB\xBFa\tx\r\n\r\nb\ty", 2),
+        (File::Kanji, b"\xEF\xBB\xBFa\tx\r\n\r\nb\ty", 2),
+        (File::Ids, b"", 0),
+        (File::Segments, b"", 0),
+        (File::Parts, b"\n", 0),
+        (File::Symbols, b"\r\n\n", 0),
+        (File::Kanji, b"", 0),
+        // Numbers at their edge.
+        (File::Ids, b"0000000009 a\n", 1),
+        (File::Unknown, b"DIGIT\t0\t1000000\n", 5),
+        (File::Unknown, b"HIRAGANA\t9\t-1000000\n", 5),
+        (File::Unknown, b"LETTER\t0000000009\t-0000000001\n", 5),
+        (File::Segments, b"9\t9\t9\t9\n0\t0\t0\t0\n", 2),
+        (File::Segments, b"0000000001\t2\t3\t0000000009\n", 1),
+        (File::Parts, b"n\tnoun\t1000000\nv\tverb\t-1000000\n", 2),
+        (File::Parts, b"n\tnoun\t-0000000005\n", 1),
+        // No line is a comment, and in a feature a tab may stand.
+        (File::Symbols, b"#\tx\n", 1),
+        (File::Parts, b"#\tnoun\t5\n", 1),
+        (File::Ids, b"1 a\tb\n", 1),
+    ];
+    for (file, bytes, count) in cases {
+        assert_eq!(rt;
+            count_rows(rt.alloc(), file, bytes),
+            Some(Ok(count)),
+            "{file:?} {bytes:?}"
+        );
+    }
+}
+
+#[test]
+fn tells_the_first_fault_of_a_line(rt: HostRuntime) {
+    let cases: [(File, &[u8], FaultKind); 75] = [
+        // The end of a line is no part of a character.
+        (File::Ids, b"1 a\n2 \xE3\x81\n\x82\n", NotUtf8(2)),
+        (File::Ids, b"1\xFF\n", NotUtf8(1)),
+        (File::Ids, b"x \xFF\n", NotUtf8(1)),
+        (File::Ids, b"10 \xFF\n", NotUtf8(1)),
+        (File::Ids, b"x\n", Fields(1)),
+        (File::Ids, b"10\n", Fields(1)),
+        (File::Ids, b"-1 a\n", Number(1)),
+        (File::Ids, b"00000000001 a\n", Number(1)),
+        (File::Ids, b"99999999999 a\n", Number(1)),
+        (File::Ids, b"9999999999 a\n", Range(1)),
+        (File::Unknown, b"OTHER\t1\t0\t\xE3\x81\n\x82\n", NotUtf8(1)),
+        (File::Unknown, b"OTHER\xFF\n", NotUtf8(1)),
+        (File::Unknown, b"Other\t1\t0\t\xFF\n", NotUtf8(1)),
+        (File::Unknown, b"OTHER\tx\t0\t\xFF\n", NotUtf8(1)),
+        (File::Unknown, b"OTHER\t10\t0\t\xFF\n", NotUtf8(1)),
+        (File::Unknown, b"Other\t9\n", Fields(1)),
+        (File::Unknown, b"OTHER\tx\n", Fields(1)),
+        (File::Unknown, b"OTHER\t10\n", Fields(1)),
+        (File::Unknown, b"Other\t9\tx\n", FaultKind::Class(1)),
+        (File::Unknown, b"Other\t10\t0\n", FaultKind::Class(1)),
+        (File::Unknown, b"DIGIT \t9\t0\n", FaultKind::Class(1)),
+        (File::Unknown, b"DIGIT\t10\tx\n", Number(1)),
+        (File::Unknown, b"DIGIT\t-1\t0\n", Number(1)),
+        (File::Unknown, b"DIGIT\t00000000001\t0\n", Number(1)),
+        (File::Unknown, b"DIGIT\t9\t-00000000001\n", Number(1)),
+        (File::Unknown, b"DIGIT\t9\t99999999999\n", Number(1)),
+        (File::Unknown, b"DIGIT\t9\t9999999999\n", Range(1)),
+        (File::Unknown, b"DIGIT\t9\t-9999999999\n", Range(1)),
+        (File::Unknown, b"DIGIT\t9\t-1000001\n", Range(1)),
+        (File::Segments, b"1\t2\t3\t4\t\xE3\x81\n\x82\n", NotUtf8(1)),
+        (File::Segments, b"1\t2\t3\xFF\n", NotUtf8(1)),
+        (File::Segments, b"x\t2\t3\t4\t\xFF\n", NotUtf8(1)),
+        (File::Segments, b"2\t1\t3\t4\t\xFF\n", NotUtf8(1)),
+        (File::Segments, b"x\t2\t3\n", Fields(1)),
+        (File::Segments, b"2\t1\t3\n", Fields(1)),
+        (File::Segments, b"x\t2\t4\t3\n", Number(1)),
+        (File::Segments, b"1\t-2\t3\t4\n", Number(1)),
+        (File::Segments, b"1\t2\t\t4\n", Number(1)),
+        (File::Segments, b"1\t2\t3\t00000000004\n", Number(1)),
+        (File::Segments, b"1\t2\t3\t9999999999\n", Range(1)),
+        (File::Segments, b"10\t10\t3\t4\n", Range(1)),
+        (File::Segments, b"9\t10\t3\t4\n", Range(1)),
+        (File::Segments, b"1\t2\t10\t10\n", Range(1)),
+        (File::Parts, b"\nn\tnoun\t5\t\xE3\x81\n\x82\n", NotUtf8(2)),
+        (File::Parts, b"n\xFF\tnoun\n", NotUtf8(1)),
+        (File::Parts, b"\tnoun\t5\t\xFF\n", NotUtf8(1)),
+        (File::Parts, b"n\tnoun\tx\t\xFF\n", NotUtf8(1)),
+        (File::Parts, b"n\tnoun\t1000001\t\xFF\n", NotUtf8(1)),
+        (File::Parts, b"n\tnone\t5\t\xFF\n", NotUtf8(1)),
+        (File::Parts, b"\tnoun\n", Fields(1)),
+        (File::Parts, b"n\tnone\n", Fields(1)),
+        (File::Parts, b"\tnoun\t1000001\n", Empty(1)),
+        (File::Parts, b"\tnone\t5\n", Empty(1)),
+        (File::Parts, b"n\tnoun\t\n", Number(1)),
+        (File::Parts, b"n\tnoun\t+5\n", Number(1)),
+        (File::Parts, b"n\tnoun\t99999999999\n", Number(1)),
+        (File::Parts, b"n\tnoun\t-00000000005\n", Number(1)),
+        (File::Parts, b"n\tnoun\t9999999999\n", Range(1)),
+        (File::Parts, b"n\tnoun\t1000001\n", Range(1)),
+        (File::Parts, b"n\tnoun\t-1000001\n", Range(1)),
+        (File::Parts, b"n\tnone\t-9999999999\n", Range(1)),
+        (File::Symbols, b"\na\tx\xE3\x81\n\x82\n", NotUtf8(2)),
+        (File::Symbols, b"a\tx\t\xFF\n", NotUtf8(1)),
+        (File::Symbols, b"\xFF\n", NotUtf8(1)),
+        (File::Symbols, b"\t\xFF\n", NotUtf8(1)),
+        (File::Symbols, b"\t\n", Empty(1)),
+        (File::Symbols, b"a\t\tx\n", Empty(1)),
+        (File::Kanji, b"\na\tx\xE3\x81\n\x82\n", NotUtf8(2)),
+        (File::Kanji, b"a\tx\t\xFF\n", NotUtf8(1)),
+        (File::Kanji, b"\xFF\n", NotUtf8(1)),
+        (File::Kanji, b"\t\xFF\n", NotUtf8(1)),
+        (File::Kanji, b"a\n", Fields(1)),
+        (File::Kanji, b"\tx\n", Empty(1)),
+        (File::Kanji, b"a\t\n", Empty(1)),
+        (File::Kanji, b"a\tx\nb\n", Fields(2)),
+    ];
+    for (file, bytes, fault) in cases {
+        assert_eq!(rt;
+            count_rows(rt.alloc(), file, bytes),
+            Some(Err(fault)),
+            "{file:?} {bytes:?}"
+        );
+    }
+}
+
+/// The start of a file, so many of a part, and the rest.
+fn many(
+    alloc: Global,
+    start: &[u8],
+    part: &[u8],
+    count: usize,
+    rest: &[u8],
+) -> Result<Vec<u8>, NoMemory> {
+    let mut bytes = Vec::from_slice(alloc, start)?;
+    for _ in 0..count {
+        bytes.extend_from_slice(part)?;
+    }
+    bytes.extend_from_slice(rest)?;
+    Ok(bytes)
+}
+
+#[test]
+fn keeps_its_limits_of_fields(rt: HostRuntime) -> Result<(), NoMemory> {
+    let cases: [(File, &[u8], usize, &[u8], Result<usize, FaultKind>); 35] = [
+        (File::Ids, b"1 ", 300, b"\n", Ok(1)),
+        (File::Ids, b"1 ", 301, b"\n", Err(Limit(1))),
+        // Each fault of the order hides the limit.
+        (File::Ids, b"1 \xFF", 301, b"\n", Err(NotUtf8(1))),
+        (File::Ids, b"", 301, b"\n", Err(Fields(1))),
+        (File::Ids, b"x ", 301, b"\n", Err(Number(1))),
+        (File::Ids, b"10 ", 301, b"\n", Err(Range(1))),
+        (
+            File::Unknown,
+            b"",
+            301,
+            b"\t1\t0\n",
+            Err(FaultKind::Class(1)),
+        ),
+        (File::Parts, b"", 300, b"\tnoun\t5\n", Ok(1)),
+        (File::Parts, b"", 301, b"\tnoun\t5\n", Err(Limit(1))),
+        (File::Parts, b"n\tnoun\t5\t", 301, b"\n", Ok(1)),
+        (File::Parts, b"n\t", 301, b"\t5\n", Err(NoFeature(1))),
+        (File::Parts, b"\xFF", 301, b"\tnoun\t5\n", Err(NotUtf8(1))),
+        (File::Parts, b"", 301, b"\tnoun\n", Err(Fields(1))),
+        (File::Parts, b"\t", 301, b"\t5\n", Err(Empty(1))),
+        (File::Parts, b"", 301, b"\tnoun\tx\n", Err(Number(1))),
+        (File::Parts, b"", 301, b"\tnoun\t9999999\n", Err(Range(1))),
+        (File::Parts, b"", 301, b"\tnone\t5\n", Err(NoFeature(1))),
+        (File::Symbols, b"", 300, b"\tx\n", Ok(1)),
+        (File::Symbols, b"", 301, b"\tx\n", Err(Limit(1))),
+        (File::Symbols, b"a\t", 300, b"\n", Ok(1)),
+        (File::Symbols, b"a\t", 301, b"\n", Err(Limit(1))),
+        (File::Symbols, b"a\tx\t", 301, b"\n", Ok(1)),
+        (File::Symbols, b"\xFF", 301, b"\tx\n", Err(NotUtf8(1))),
+        (File::Symbols, b"", 301, b"\n", Err(Fields(1))),
+        (File::Symbols, b"\t", 301, b"\n", Err(Empty(1))),
+        (File::Symbols, b"", 301, b"\t\n", Err(Empty(1))),
+        (File::Kanji, b"", 300, b"\tx\n", Ok(1)),
+        (File::Kanji, b"", 301, b"\tx\n", Err(Limit(1))),
+        (File::Kanji, b"a\t", 300, b"\n", Ok(1)),
+        (File::Kanji, b"a\t", 301, b"\n", Err(Limit(1))),
+        (File::Kanji, b"a\tx\t", 301, b"\n", Ok(1)),
+        (File::Kanji, b"\xFF", 301, b"\tx\n", Err(NotUtf8(1))),
+        (File::Kanji, b"", 301, b"\n", Err(Fields(1))),
+        (File::Kanji, b"\t", 301, b"\n", Err(Empty(1))),
+        (File::Kanji, b"", 301, b"\t\n", Err(Empty(1))),
+    ];
+    for (index, (file, start, count, rest, wanted)) in cases.into_iter().enumerate() {
+        let bytes = many(rt.alloc(), start, b"a", count, rest)?;
+        assert_eq!(rt;
+            count_rows(rt.alloc(), file, bytes.as_slice()),
+            Some(wanted),
+            "case {index}"
+        );
+    }
+    Ok(())
+}
+
+/// A row of each file.
+fn row_of(file: File) -> &'static [u8] {
+    match file {
+        File::Ids => b"1 a\n",
+        File::Unknown => b"OTHER\t1\t0\n",
+        File::Segments => b"1\t2\t3\t4\n",
+        File::Parts => b"n\tnoun\t5\n",
+        File::Symbols | File::Kanji => b"a\tx\n",
+    }
+}
+
+/// What comes after 100,000 rows: nothing, a row more, or a fault that hides the limit.
+#[test]
+fn keeps_its_limits_of_rows(rt: HostRuntime) -> Result<(), NoMemory> {
+    let cases: [(File, &[u8], Result<usize, FaultKind>); 30] = [
+        // Ids have no limit of rows.
+        (File::Ids, b"1 a\n", Ok(1)),
+        (File::Unknown, b"\n", Ok(5)),
+        (File::Unknown, b"\nOTHER\t1\t0\n", Err(Limit(100_002))),
+        (File::Unknown, b"\xFF\t1\t0\n", Err(NotUtf8(100_001))),
+        (File::Unknown, b"OTHER\t1\n", Err(Fields(100_001))),
+        (
+            File::Unknown,
+            b"Other\t1\t0\n",
+            Err(FaultKind::Class(100_001)),
+        ),
+        (File::Unknown, b"OTHER\tx\t0\n", Err(Number(100_001))),
+        (File::Unknown, b"OTHER\t10\t0\n", Err(Range(100_001))),
+        (File::Segments, b"\n", Ok(100_000)),
+        (File::Segments, b"1\t2\t3\t4\n", Err(Limit(100_001))),
+        (File::Segments, b"\xFF\t2\t3\t4\n", Err(NotUtf8(100_001))),
+        (File::Segments, b"1\t2\t3\n", Err(Fields(100_001))),
+        (File::Segments, b"x\t2\t3\t4\n", Err(Number(100_001))),
+        (File::Segments, b"2\t1\t3\t4\n", Err(Range(100_001))),
+        (File::Parts, b"\n", Ok(1)),
+        (File::Parts, b"n\tnoun\t5\n", Err(Limit(100_001))),
+        (File::Parts, b"n\xFF\tnoun\t5\n", Err(NotUtf8(100_001))),
+        (File::Parts, b"n\tnoun\n", Err(Fields(100_001))),
+        (File::Parts, b"\tnoun\t5\n", Err(Empty(100_001))),
+        (File::Parts, b"n\tnoun\tx\n", Err(Number(100_001))),
+        (File::Parts, b"n\tnoun\t9999999\n", Err(Range(100_001))),
+        (File::Parts, b"n\tnone\t5\n", Err(NoFeature(100_001))),
+        (File::Symbols, b"\n", Ok(100_000)),
+        (File::Symbols, b"a\tx\n", Err(Limit(100_001))),
+        (File::Symbols, b"a\xFF\n", Err(NotUtf8(100_001))),
+        (File::Symbols, b"a\n", Err(Fields(100_001))),
+        (File::Symbols, b"a\t\n", Err(Empty(100_001))),
+        (File::Kanji, b"\n", Ok(100_000)),
+        (File::Kanji, b"a\tx\n", Err(Limit(100_001))),
+        (File::Kanji, b"a\t\n", Err(Empty(100_001))),
+    ];
+    for (index, (file, rest, wanted)) in cases.into_iter().enumerate() {
+        let bytes = many(rt.alloc(), b"", row_of(file), 100_000, rest)?;
+        assert_eq!(rt;
+            count_rows(rt.alloc(), file, bytes.as_slice()),
+            Some(wanted),
+            "case {index}"
+        );
+    }
+    Ok(())
 }
