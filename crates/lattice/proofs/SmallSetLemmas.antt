@@ -11,7 +11,7 @@ use Rattle.mz_base.specs.declared.data.Class.TheVariants.{Hiragana, Katakana, Di
 use Rattle.mz_base.specs.declared.data.PosRow.{PosRow}
 use Rattle.mz_base.specs.declared.data.WordRow.{WordRow}
 use Rattle.mz_base.proofs.LimitLemmas.{IsCost-from_test}
-use Rattle.lattice.specs.SmallSet.{noun, small}
+use Rattle.lattice.specs.SmallSet.{noun, small, suppressed_part}
 
 both : (a b : Bool) → (a && b) ≡ true → (a ≡ true) × (b ≡ true)
 both true b h = (refl, h)
@@ -42,11 +42,12 @@ classes_small Other = node_small 1 (pos 6000) (lit< tt) refl
 
 parts_small : (name : List ℕ) → IfSome (pos_of small name) (IsNode 3)
 unfolding pos_of
-parts_small name = by_test (is_text name noun.name)
+parts_small name = by_tests (is_text name noun.name) (is_text name suppressed_part.name)
   where
-    by_test : (b : Bool) → IfSome (option_map (λ (row : PosRow). (row.id, row.cost)) (cond b (Some noun) None)) (IsNode 3)
-    by_test true = node_small 1 (pos 100) (lit< tt) refl
-    by_test false = search rules
+    by_tests : (a b : Bool) → IfSome (option_map (λ (row : PosRow). (row.id, row.cost)) (cond a (Some noun) (cond b (Some suppressed_part) None))) (IsNode 3)
+    by_tests true b = node_small 1 (pos 100) (lit< tt) refl
+    by_tests false true = node_small 2 (pos 200) (lit< tt) refl
+    by_tests false false = search rules
 
 -- a row's limits as a test
 abbrev is_word : WordRow → Bool

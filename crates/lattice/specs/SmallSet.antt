@@ -1,13 +1,30 @@
--- The data set that the tests convert with.
-use Rattle.std.specs.Prelude.{pos, [], ◌∷◌, ◌++◌}
+-- The data set and the user that the tests convert with.
+use Rattle.std.specs.Prelude.{ℕ, pos, List, [], ◌∷◌, ◌++◌}
 use Rattle.mz_base.specs.Data.{DataLists}
 use Rattle.mz_base.specs.declared.data.PosRow.{PosRow}
+use Rattle.mz_base.specs.declared.user.UserRow.{UserRow}
+use Rattle.conversion_meaning.specs.Entries.{suppressed}
 use Rattle.conversion_meaning.specs.Examples.{seaweed_and_mourning, set_with, words_of_set}
 
 -- 名詞 1 100
 abbrev pub noun : PosRow
 noun = record { name = 0x540d ∷ 0x8a5e ∷ []; id = 1; cost = pos 100 }
 
--- the words of the worked examples, and one part of speech
+-- 抑制単語 2 200
+abbrev pub suppressed_part : PosRow
+suppressed_part = record { name = suppressed; id = 2; cost = pos 200 }
+
+-- the words of the worked examples, and two parts of speech
 abbrev pub small : DataLists
-small = record (set_with (words_of_set ++ seaweed_and_mourning)) { pos = noun ∷ [] }
+small =
+    record (set_with (words_of_set ++ seaweed_and_mourning)) { pos = noun ∷ suppressed_part ∷ [] }
+
+-- a user's row for きょう
+abbrev pub kyou_row : List ℕ → List ℕ → ℕ → UserRow
+kyou_row word part line =
+    record { reading = 0x304d ∷ 0x3087 ∷ 0x3046 ∷ []; word = word; pos = part; line = line }
+
+-- きょう 強 名詞, きょう 今日 抑制単語, きょう 狂 動詞, きょう 卿 名詞
+abbrev pub four_rows : List UserRow
+four_rows =
+    kyou_row (0x5f37 ∷ []) noun.name 1 ∷ kyou_row (0x4eca ∷ 0x65e5 ∷ []) suppressed 2 ∷ kyou_row (0x72c2 ∷ []) (0x52d5 ∷ 0x8a5e ∷ []) 3 ∷ kyou_row (0x537f ∷ []) noun.name 4 ∷ []
