@@ -32,7 +32,7 @@ files_of-others number other [] differ = refl
 files_of-others number other (file ∷ files) differ =
     others-cons number other file files (file.set == other) (file.set == number) refl refl differ (files_of-others number other files differ)
 
-few-filter : {A : Type 0} (test : A → Bool) (xs : List A) → length (filter test xs) ≤ length xs
+pub few-filter : {A : Type 0} (test : A → Bool) (xs : List A) → length (filter test xs) ≤ length xs
 few-filter test xs = omega (arith, length-filter test xs, count_by-le-length test xs)
 
 -- a set has no more files than there are, and neither have the others, nor a role among them

@@ -32,6 +32,8 @@ module _ (Gives : Result Output Refusal → Type 0) (before after : Option (List
   refused-settles (refusal.BadManifest line) gives silent = record { gives = gives; silent = silent }
   refused-settles (refusal.BadData set) gives silent = record { gives = gives; silent = silent }
   refused-settles (refusal.TooLarge limit) gives silent = record { gives = gives; silent = silent }
+  refused-settles (refusal.BadCertificate fault) gives silent = record { gives = gives; silent = silent }
+  refused-settles (refusal.NoSet name) gives silent = record { gives = gives; silent = silent }
   refused-settles (refusal.Unbuilt name line) gives silent = record { gives = gives; silent = silent }
   refused-settles refusal.ReadFault gives silent = silent
   refused-settles refusal.Memory gives silent = silent

@@ -1,9 +1,13 @@
+pub mod BoundTexts
+pub mod Claims
+pub mod Conversions
 pub mod Core
 pub mod DataSets
 pub mod Loaded
 pub mod Printed
 pub mod Reading
 pub mod Reported
+pub mod Requests
 pub mod ScriptAnswers
 pub mod Scripts
 pub mod Served

@@ -1,8 +1,14 @@
 -- What the program's answer says, and what it writes: docs/FORMATS.md, "Statuses".
-use Rattle.std.specs.Prelude.{◌≡◌, ⊤, ℕ, Bool, true, false, List, [], ◌∷◌, Option, Some, None, unwrap_or, Result, Ok, Err, if◌then◌else◌, codes, bytes_eq, length, nat_lt}
+use Rattle.std.specs.Prelude.{◌≡◌, ⊤, ℕ, ◌&&◌, Bool, true, false, not, List, [], ◌∷◌, ◌++◌, Option, Some, None, unwrap_or, Result, Ok, Err, if◌then◌else◌, codes, bytes_eq, length, nat_lt}
 use Rattle.std.specs.List.{list_any}
+use Rattle.std.specs.Fmt.{signed_decimal}
 use Rattle.std.specs.Str.{chars}
 use Rattle.mz_base.specs.Answers.{◌>>=◌}
+use Rattle.mz_base.specs.Data.{DataLists}
+use Rattle.mz_base.specs.declared.lattice.Certificate.{Certificate}
+use Rattle.mz_base.specs.declared.status.CertFault.{CertFault}
+use Rattle.cert_text.specs.Fields.{bounds_in}
+use Rattle.cert_text.specs.Texts.{certificate_text}
 use Rattle.mz_base.specs.declared.report.Line.{Line}
 use Rattle.mz_base.specs.declared.report.Word.{Word}
 use Rattle.mz_base.specs.declared.report.Word.TheVariants.{Done, Pass, Full, Met, Differs, Awaited, NotYet}
@@ -10,10 +16,12 @@ use Rattle.mz_base.specs.declared.status.Limit.TheVariants.{Report}
 use Rattle.mz_base.specs.declared.status.Status.{Status}
 use Rattle.mz_base.specs.declared.status.Status.TheVariants as status
 use Rattle.mz_outside.specs.Taken.{with_more, AddsFront}
+use Rattle.mozc_cli.specs.Conversions.{Claimed, set_asked, claim_asked, IsAnswerTo, IsVerdictOn}
 use Rattle.mozc_cli.specs.Core.{State, play, run_order, start}
 use Rattle.mozc_cli.specs.Reading.{Files}
 use Rattle.mozc_cli.specs.Texts.{report_text}
 use Rattle.mozc_cli.specs.Worlds.{World, world, listing}
+use Rattle.mozc_cli.specs.declared.asking.Asking.{Asking}
 use Rattle.mozc_cli.specs.declared.local.TheConstants.{MOST_OUTPUT_BYTES}
 use Rattle.mozc_cli.specs.declared.refusal.Refusal.{Refusal}
 use Rattle.mozc_cli.specs.declared.refusal.Refusal.TheVariants as refusal
@@ -22,6 +30,9 @@ use Rattle.mozc_cli.specs.declared.refusal.Refusal.TheVariants as refusal
 pub data Asked : Type 0 where
   run : List ℕ → Asked
   check : List ℕ → Asked
+  -- of one data set, with the bounds, or with the path of a certificate
+  convert : Asking → List ℕ → Asked
+  verify : Asking → List ℕ → Asked
 
 -- the command of two words
 abbrev pub asked_of : List ℕ → List ℕ → Option Asked
@@ -30,8 +41,32 @@ asked_of command manifest =
     if bytes_eq command (codes "check") then Some (check (chars manifest)) else
     None
 
+-- what is asked of one data set
+abbrev pub asking : List ℕ → List ℕ → List ℕ → Asking
+asking manifest set key = record { manifest = chars manifest; set = chars set; key = chars key }
+
+-- a conversion without bounds, of a key that is not empty
+abbrev pub asked_plain : List ℕ → Asking → Option Asked
+asked_plain command asking =
+    if nat_lt 0 (length asking.key) && bytes_eq command (codes "convert") then Some (convert asking []) else None
+
+-- a conversion with bounds
+abbrev pub with_bounds : Asking → Option (List ℕ) → Option Asked
+with_bounds asking None = None
+with_bounds asking (Some bounds) = Some (convert asking bounds)
+
+-- a command with one word more, of a key that is not empty
+abbrev pub asked_with : List ℕ → Asking → List ℕ → Option Asked
+asked_with command asking last =
+    if not (nat_lt 0 (length asking.key)) then None else
+    if bytes_eq command (codes "convert") then with_bounds asking (bounds_in (length asking.key) last) else
+    if bytes_eq command (codes "verify") then Some (verify asking (chars last)) else
+    None
+
 abbrev pub asked : List (List ℕ) → Option Asked
 asked (command ∷ manifest ∷ []) = asked_of command manifest
+asked (command ∷ manifest ∷ set ∷ key ∷ []) = asked_plain command (asking manifest set key)
+asked (command ∷ manifest ∷ set ∷ key ∷ last ∷ []) = asked_with command (asking manifest set key) last
 asked _ = None
 
 -- a refusal as a status
@@ -40,6 +75,8 @@ status_of (refusal.Absent name) = status.Absent name
 status_of (refusal.BadManifest line) = status.BadManifest line
 status_of (refusal.BadData set) = status.BadData set
 status_of (refusal.TooLarge limit) = status.TooLarge limit
+status_of (refusal.BadCertificate fault) = status.BadCertificate fault
+status_of (refusal.NoSet name) = status.NoSet name
 status_of (refusal.Unbuilt name line) = status.Unbuilt name line
 status_of refusal.ReadFault = status.ReadFault
 status_of refusal.Memory = status.Memory
@@ -82,10 +119,30 @@ run_meant files name = world files name >>= (λ world. limited (run_output world
 abbrev pub check_meant : Files → List ℕ → Result Output Refusal
 check_meant files name = listing files name >>= (λ text. limited (list_output text))
 
+-- what a conversion gives: the certificate of the best path
+abbrev pub MeansAnswer : List ℕ → List ℕ → Result DataLists Refusal → Result Output Refusal → Type 0
+MeansAnswer key bounds (Err refused) meant = meant ≡ Err refused
+MeansAnswer key bounds (Ok set) meant =
+    (certificate : Certificate) × IsAnswerTo set key bounds certificate × (meant ≡ limited (list_output (certificate_text certificate)))
+
+-- what is written of a certificate that holds, or its first fault
+abbrev pub verdict_output : Certificate → Result (Unit {0}) CertFault → Result Output Refusal
+verdict_output certificate (Ok _) =
+    limited (list_output (codes "ok\t" ++ (signed_decimal certificate.total ++ codes "\n")))
+verdict_output certificate (Err fault) = Err (refusal.BadCertificate fault)
+
+-- what a certificate's test gives
+abbrev pub MeansVerdict : List ℕ → Result Claimed Refusal → Result Output Refusal → Type 0
+MeansVerdict key (Err refused) meant = meant ≡ Err refused
+MeansVerdict key (Ok claimed) meant =
+    (verdict : Result (Unit {0}) CertFault) × IsVerdictOn claimed.set key claimed.certificate verdict × (meant ≡ verdict_output claimed.certificate verdict)
+
 -- What a command gives: what it writes, or the first refusal in the order of work.
 abbrev pub Means : Files → Asked → Result Output Refusal → Type 0
 Means files (run name) meant = meant ≡ run_meant files name
 Means files (check name) meant = meant ≡ check_meant files name
+Means files (convert asking bounds) meant = MeansAnswer asking.key bounds (set_asked files asking) meant
+Means files (verify asking name) meant = MeansVerdict asking.key (claim_asked files asking name) meant
 
 -- the output was written whole, and each expectation is met in it, or not
 pub record IsWritten (Gives : Result Output Refusal → Type 0) (unmet : Bool) (before after : Option (List ℕ)) : Type 0 where
@@ -114,6 +171,8 @@ Settles Gives before after (status.Absent name) = IsRefused Gives (refusal.Absen
 Settles Gives before after (status.BadManifest line) = IsRefused Gives (refusal.BadManifest line) before after
 Settles Gives before after (status.BadData set) = IsRefused Gives (refusal.BadData set) before after
 Settles Gives before after (status.TooLarge limit) = IsRefused Gives (refusal.TooLarge limit) before after
+Settles Gives before after (status.BadCertificate fault) = IsRefused Gives (refusal.BadCertificate fault) before after
+Settles Gives before after (status.NoSet name) = IsRefused Gives (refusal.NoSet name) before after
 Settles Gives before after (status.Unbuilt name line) = IsRefused Gives (refusal.Unbuilt name line) before after
 Settles Gives before after status.Memory = after ≡ before
 Settles Gives before after status.ReadFault = after ≡ before

@@ -1,20 +1,30 @@
-ghost use Rattle.std.specs.Prelude.{◌≡◌, ◌≢◌, ◌↔◌, map, Some, None, Err, IfOk, option_map};
+ghost use Rattle.std.specs.Prelude.{◌≡◌, ◌≢◌, ◌↔◌, map, ◌++◌, ◌<◌, Some, None, Ok, Err, IfOk, codes, length};
+ghost use Rattle.std.specs.Fmt.{signed_decimal};
 ghost use Rattle.std.specs.Option.{option_copied};
 ghost use Rattle.std.specs.Str.{chars};
 ghost use Rattle.std.specs.String.{string_bytes};
 ghost use Rattle.mz_outside.specs.Causes.{Rose};
 ghost use Rattle.mozc_cli.specs.Loaded.{world_of};
 ghost use Rattle.mozc_cli.specs.Reading.{Files, Tells, IsRefusal};
-ghost use Rattle.mozc_cli.specs.Reported.{asked_for, shown, TellsMeant, Writes};
-ghost use Rattle.mozc_cli.specs.Settles.{Asked, run, check, Means, Settles, IsSilent, asked, asked_of, has_differs, run_output, run_meant, check_meant, limited, status_of};
+ghost use Rattle.cert_text.specs.Texts.{certificate_text};
+ghost use Rattle.conversion_meaning.specs.Lattices.{AreBounds, IsKey};
+ghost use Rattle.mozc_cli.specs.BoundTexts.{bounds_for};
+ghost use Rattle.mozc_cli.specs.Conversions.{set_asked, claim_asked};
+ghost use Rattle.mozc_cli.specs.Reported.{asked_for, asking_of, shown, TellsMeant, Writes};
+ghost use Rattle.mozc_cli.specs.Requests.{HasKey};
+ghost use Rattle.mozc_cli.specs.Settles.{Asked, Means, MeansAnswer, MeansVerdict, Settles, IsSilent, asked, has_differs, list_output, run_output, run_meant, check_meant, limited, status_of};
 ghost use Rattle.mozc_cli.specs.Texts.{client_name};
 
+use crate::asking::{Asking, claim_asked, set_asked};
+use crate::bounds::bounds_for;
+use crate::converting::{convert, verify};
 use crate::print::print;
 use crate::refusal::Refusal;
+use crate::requests::{Request, Words, asked};
 use crate::serving::serve;
 use crate::world::{Loaded, Plan, read_listing, read_world};
 use engine::Engine;
-use mz_base::{DataSet, Limit, Line, NoMemory, Status, Text, Word};
+use mz_base::{Certificate, DataSet, Limit, Line, NoMemory, Status, Text, Word};
 use mz_outside::{Sink, Store, write_all};
 use std::alloc::Global;
 
@@ -22,7 +32,8 @@ use std::alloc::Global;
 pub const MOST_OUTPUT_BYTES: usize = 1 << 30;
 
 /// Carries out a command of the program. `run M` runs the client of the manifest M and writes the report; `check M` reads
-/// all data of the manifest M and lists its data sets.
+/// all data of the manifest M and lists its data sets; `convert M set key`, also with bounds, writes the best path of a key
+/// with its certificate; `verify M set key F` tests the certificate in the file F.
 ///
 /// Files are read in the order of work: the manifest, the script, the data files. After a refusal nothing was written.
 /// Want of memory may stand in place of any answer but `Usage`.
@@ -54,42 +65,13 @@ pub fn local<S: Store, K: Sink>(
     }
 }
 
-/// What the words ask for.
-#[derive(Clone, Copy)]
-enum Request<'a> {
-    /// To run the client of a manifest.
-    Run(&'a str),
-    /// To list the data sets of a manifest.
-    Check(&'a str),
-}
-
-fn asked(words: &[String]) -> Option<Request<'_>>
-    ensures { option_map asked_for result ≡ asked (map string_bytes words.now) }
-{
-    match words {
-        [command, manifest] => asked_of(command.as_str(), manifest.as_str()),
-        _ => None,
-    }
-}
-
-fn asked_of<'a>(command: &str, manifest: &'a str) -> Option<Request<'a>>
-    ensures { option_map asked_for result ≡ asked_of command.now manifest.now }
-{
-    if command == "run" {
-        return Some(Request::Run(manifest));
-    }
-    if command == "check" {
-        return Some(Request::Check(manifest));
-    }
-    None
-}
-
 fn answer<S: Store, K: Sink>(
     alloc: Global,
     request: Request<'_>,
     store: &mut S,
     sink: &mut K,
 ) -> Status
+    requires { HasKey request }
     ensures usage { result ≢ Status.Usage }
     ensures settled { (files : Files) → S.files store.old ≡ Some files → Settles (Means files (asked_for request.entry)) (K.bytes sink.old) (K.bytes sink.new) result }
     ensures silent { IsSilent (K.bytes sink.old) (K.bytes sink.new) result }
@@ -115,6 +97,7 @@ fn output_for<S: Store>(
     store: &mut S,
     request: Request<'_>,
 ) -> Result<Output, Refusal>
+    requires { HasKey request }
     ensures told { (files : Files) → S.files store.old ≡ Some files → TellsMeant (Means files (asked_for request.entry)) result }
     ensures same { S.files store.new ≡ S.files store.old }
     ensures fault { result ≡ Err Refusal.ReadFault → Rose (S.faults store.old) (S.faults store.new) }
@@ -122,6 +105,8 @@ fn output_for<S: Store>(
     match request {
         Request::Run(name) => report_in(alloc, store, name),
         Request::Check(name) => listing_in(alloc, store, name),
+        Request::Convert(words, bounds) => conversion_in(alloc, store, words, bounds),
+        Request::Verify(words, name) => verdict_in(alloc, store, words, name),
     }
 }
 
@@ -142,6 +127,98 @@ fn listing_in<S: Store>(alloc: Global, store: &mut S, name: &str) -> Result<Outp
 {
     let name = Text::from_str(alloc, name)?;
     let text = read_listing(alloc, store, &name)?;
+    limited(Output { text, unmet: false })
+}
+
+fn conversion_in<S: Store>(
+    alloc: Global,
+    store: &mut S,
+    words: Words<'_>,
+    bounds: Option<&str>,
+) -> Result<Output, Refusal>
+    requires { 0 < length (chars words.key.now) }
+    ensures told { (files : Files) → S.files store.old ≡ Some files →
+        TellsMeant (MeansAnswer (chars words.entry.key.now) (bounds_for (length (chars words.entry.key.now)) (option_copied bounds.entry)) (set_asked files (asking_of words.entry))) result }
+    ensures same { S.files store.new ≡ S.files store.old }
+    ensures fault { result ≡ Err Refusal.ReadFault → Rose (S.faults store.old) (S.faults store.new) }
+{
+    let asking = asking_of(alloc, words)?;
+    match set_asked(alloc, store, &asking) {
+        Ok(set) => converted(alloc, &set, asking.key.as_chars(), bounds),
+        Err(refusal) => Err(refusal),
+    }
+}
+
+fn verdict_in<S: Store>(
+    alloc: Global,
+    store: &mut S,
+    words: Words<'_>,
+    name: &str,
+) -> Result<Output, Refusal>
+    requires { 0 < length (chars words.key.now) }
+    ensures told { (files : Files) → S.files store.old ≡ Some files →
+        TellsMeant (MeansVerdict (chars words.entry.key.now) (claim_asked files (asking_of words.entry) (chars name.now))) result }
+    ensures same { S.files store.new ≡ S.files store.old }
+    ensures fault { result ≡ Err Refusal.ReadFault → Rose (S.faults store.old) (S.faults store.new) }
+{
+    let asking = asking_of(alloc, words)?;
+    let name = Text::from_str(alloc, name)?;
+    match claim_asked(alloc, store, &asking, &name) {
+        Ok(claim) => judged(alloc, &claim.set, asking.key.as_chars(), &claim.certificate),
+        Err(refusal) => Err(refusal),
+    }
+}
+
+fn asking_of(alloc: Global, words: Words<'_>) -> Result<Asking, NoMemory>
+    ensures { IfOk result (λ asking. asking ≡ asking_of words.entry) }
+{
+    Ok(Asking {
+        manifest: Text::from_str(alloc, words.manifest)?,
+        set: Text::from_str(alloc, words.set)?,
+        key: Text::from_str(alloc, words.key)?,
+    })
+}
+
+fn converted<D: DataSet>(
+    alloc: Global,
+    set: &D,
+    key: &[char],
+    bounds: Option<&str>,
+) -> Result<Output, Refusal>
+    requires key { IsKey key.now }
+    ensures told { TellsMeant (MeansAnswer key.now (bounds_for (length key.now) (option_copied bounds.entry)) (Ok (D.lists set.now))) result }
+    ensures reads_nothing { result ≢ Err Refusal.ReadFault }
+{
+    let bounds = bounds_for(alloc, key, bounds)?;
+    let certificate = convert(alloc, set, key, bounds.as_slice())?;
+    let mut text = String::new(alloc);
+    cert_text::print(&mut text, &certificate)?;
+    limited(Output { text, unmet: false })
+}
+
+fn judged<D: DataSet>(
+    alloc: Global,
+    set: &D,
+    key: &[char],
+    certificate: &Certificate,
+) -> Result<Output, Refusal>
+    requires key { IsKey key.now }
+    requires bounds { AreBounds key.now certificate.now.bounds }
+    ensures told { TellsMeant (MeansVerdict key.now (Ok (record { set = D.lists set.now; certificate = certificate.now }))) result }
+    ensures reads_nothing { result ≢ Err Refusal.ReadFault }
+{
+    match verify(alloc, set, key, certificate)? {
+        Ok(()) => verdict_output(alloc, certificate.total),
+        Err(fault) => Err(Refusal::BadCertificate(fault)),
+    }
+}
+
+fn verdict_output(alloc: Global, total: i64) -> Result<Output, Refusal>
+    ensures told { Tells shown result (limited (list_output (codes "ok\t" ++ (signed_decimal total ++ codes "\n")))) }
+    ensures reads_nothing { result ≢ Err Refusal.ReadFault }
+{
+    let mut text = String::new(alloc);
+    write!(&mut text, "ok\t{total}\n")?;
     limited(Output { text, unmet: false })
 }
 
@@ -210,6 +287,8 @@ fn refused(refusal: Refusal) -> Status
         Refusal::BadManifest(line) => Status::BadManifest(line),
         Refusal::BadData(set) => Status::BadData(set),
         Refusal::TooLarge(limit) => Status::TooLarge(limit),
+        Refusal::BadCertificate(fault) => Status::BadCertificate(fault),
+        Refusal::NoSet(name) => Status::NoSet(name),
         Refusal::Unbuilt(name, line) => Status::Unbuilt(name, line),
         Refusal::ReadFault => Status::ReadFault,
         Refusal::Memory => Status::Memory,

@@ -2,11 +2,15 @@
 //! What a run is: specs/Core.antt; what files mean: specs/Worlds.antt; what an answer says: specs/Settles.antt.
 #![tactic(auto)]
 
+mod asking;
+mod bounds;
+mod converting;
 mod laws;
 mod local;
 mod print;
 mod reading;
 mod refusal;
+mod requests;
 mod script;
 mod served;
 mod serving;
@@ -27,7 +31,11 @@ use std::{env, io};
 const HELP: &str = "mozc_cli run MANIFEST
 Runs the client of the manifest and writes the report on standard output.
 mozc_cli check MANIFEST
-Reads all data of the manifest and lists its data sets.";
+Reads all data of the manifest and lists its data sets.
+mozc_cli convert MANIFEST SET KEY [BOUNDS]
+Writes the best path of a key in a data set, with its certificate.
+mozc_cli verify MANIFEST SET KEY FILE
+Tests the certificate in a file.";
 
 const VERSION: &str = "mozc_cli 0.1.0";
 

@@ -1,6 +1,6 @@
 ghost use Rattle.std.specs.Prelude.{◌≡◌};
 
-use mz_base::{BadSet, Limit, NoMemory, Text};
+use mz_base::{BadSet, CertFault, Limit, NoMemory, Text};
 use std::alloc::{AllocError, AllocFailed};
 
 /// Why a command writes nothing.
@@ -13,6 +13,10 @@ pub enum Refusal {
     /// The first data set that does not read.
     BadData(BadSet),
     TooLarge(Limit),
+    /// The first condition of a certificate that is false.
+    BadCertificate(CertFault),
+    /// A data set that the manifest does not name.
+    NoSet(Text),
     /// A file, and the line whose form is not built.
     Unbuilt(Text, u64),
     ReadFault,

@@ -73,7 +73,8 @@ fn put(split: &mut Split, file: DataFile, number: u32) -> Result<(), NoMemory>
     Ok(())
 }
 
-fn set_in(alloc: Global, files: Vec<SetFile>) -> Result<Engine, Refusal>
+/// The data set of these files; else the path of the first file that does not read, and its fault.
+pub fn set_in(alloc: Global, files: Vec<SetFile>) -> Result<Engine, Refusal>
     requires few { length files.items < 2 ^ 32 }
     ensures told { Tells (λ engine. ⟦<Engine as DataSet>⟧.lists engine) result (set_in files.items) }
     ensures reads_nothing { result ≢ Err Refusal.ReadFault }

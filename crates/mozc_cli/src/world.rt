@@ -100,7 +100,7 @@ fn first_name(alloc: Global, names: &[Text]) -> Result<Option<Text>, NoMemory>
 }
 
 #[tactic(auto, unfolding(crate::specs::Worlds::opened))]
-fn open_manifest<S: Store>(
+pub fn open_manifest<S: Store>(
     alloc: Global,
     store: &mut S,
     in_run: bool,

@@ -1,0 +1,5 @@
+pub mod LineTexts
+pub mod NumberTexts
+pub mod ReadAgain
+pub mod RiseLemmas
+pub mod ValueSteps
