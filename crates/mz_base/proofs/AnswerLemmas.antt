@@ -1,5 +1,5 @@
 -- A reader that goes on after a part's answer, or hands on its refusal.
-use Rattle.std.proofs.Common.{◌≡◌, Result, Ok, Err, refl}
+use Rattle.std.proofs.Common.{◌≡◌, Result, Err, refl}
 use Rattle.mz_base.specs.Answers.{◌>>=◌, Gives}
 use Rattle.mz_base.specs.declared.fault.FaultKind.{FaultKind}
 use Rattle.mz_base.specs.declared.fault.ReadError.{ReadError}

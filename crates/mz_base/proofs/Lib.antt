@@ -4,6 +4,5 @@ pub mod LatestSteps
 pub mod LimitLemmas
 pub mod NumberLemmas
 pub mod RowFacts
-pub mod RowSteps
 pub mod Turns
 pub mod Waiting

@@ -1,5 +1,5 @@
 -- What the tests of the limits say.
-use Rattle.std.proofs.Common.{◌≡◌, ℤ, true, arith, tests}
+use Rattle.std.proofs.Common.{◌≡◌, ℤ, true, arith}
 use Rattle.std.proofs.lemmas.Bool.Decides.{nat_tests}
 use Rattle.std.proofs.lemmas.Int.{ints}
 use Rattle.mz_base.specs.Data.{IsCost}

@@ -1,5 +1,5 @@
 -- Romaji rules, and the kana that a run of typed characters makes: docs/FORMATS.md, "Kana".
-use Rattle.std.specs.Prelude.{◌≡◌, ◌≢◌, ⊤, ℕ, ◌+◌, ◌<◌, Bool, ◌&&◌, ◌||◌, List, [], ◌∷◌, ◌++◌, Option, Some, None, if◌then◌else◌, ◌==◌, nat_eq, nat_lt, length, take, drop, zero, suc}
+use Rattle.std.specs.Prelude.{◌≡◌, ◌≢◌, ⊤, ℕ, ◌<◌, Bool, ◌&&◌, ◌||◌, List, [], ◌∷◌, ◌++◌, Option, Some, None, if◌then◌else◌, ◌==◌, nat_eq, nat_lt, length, take, drop, zero, suc}
 use Rattle.std.specs.List.{list_any, starts_with, AllByRecursion}
 use Rattle.mz_base.specs.declared.romaji.Rule.{Rule}
 use Rattle.mz_base.specs.declared.romaji.RuleView.{RuleView}

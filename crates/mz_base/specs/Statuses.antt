@@ -1,5 +1,5 @@
 -- The numbers and texts of statuses: docs/FORMATS.md, "Statuses".
-use Rattle.std.specs.Prelude.{ℕ, List, [], ◌∷◌, ◌++◌, Option, Some, None, codes, encode_utf8_all}
+use Rattle.std.specs.Prelude.{ℕ, List, ◌++◌, Option, Some, None, codes, encode_utf8_all}
 use Rattle.std.specs.Fmt.{decimal, signed_decimal}
 use Rattle.mz_base.specs.Faults.{kind_text}
 use Rattle.mz_base.specs.declared.status.Limit.{Limit}

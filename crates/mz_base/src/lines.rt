@@ -1,4 +1,4 @@
-ghost use Rattle.std.specs.Prelude.{◌≡◌, ◌==◌, ◌∷◌, IfOk, position};
+ghost use Rattle.std.specs.Prelude.{◌≡◌, ◌==◌, ◌∷◌, ◌+◌, ◌≤◌, IfOk, length, position};
 ghost use Rattle.std.specs.List.{slice_split};
 ghost use Rattle.std.specs.Option.{option_copied};
 ghost use Rattle.std.specs.Str.Lines.{strip_carriage_return};
@@ -84,7 +84,8 @@ impl<'a> FileLines<'a> {
     ghost use Rattle.mz_base.specs.FileLines.{lines_left};
 
     pub fn of(bytes: &'a [u8]) -> FileLines<'a>
-        ensures { lines_left result ≡ lines_of bytes.now }
+        ensures lines { lines_left result ≡ lines_of bytes.now }
+        ensures few { length (lines_left result) ≤ length bytes.now + 1 }
     {
         let text = skip_mark(bytes);
         if text.is_empty() {

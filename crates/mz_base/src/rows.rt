@@ -4,7 +4,7 @@ ghost use Rattle.mz_base.specs.Lines.{lines_of};
 ghost use Rattle.mz_base.specs.Rows.{rows_after};
 ghost use Rattle.mz_base.specs.declared.fault.FaultKind.{FaultKind};
 
-use crate::{NoMemory, ReadError, cut_lines};
+use crate::{FileLines, NoMemory, ReadError};
 use std::alloc::Global;
 
 /// How a kind of file is read, line by line.
@@ -43,9 +43,10 @@ pub fn read_rows<R: RowReader>(
     ensures { Gives (λ rows. rows.items) result (rows_after (R.row_of reader.old) before.items 1 (lines_of bytes.now)) }
 {
     let mut rows = before;
-    let lines = cut_lines(alloc, bytes)?;
-    for (index, line) in lines.iter().enumerate() {
-        let row = reader.read_row(alloc, rows.as_slice(), index as u64 + 1, line)?;
+    let mut number = 0;
+    for line in FileLines::of(bytes) {
+        number += 1;
+        let row = reader.read_row(alloc, rows.as_slice(), number, line)?;
         put(&mut rows, row)?;
     }
     Ok(rows)

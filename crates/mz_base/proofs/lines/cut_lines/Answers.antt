@@ -1,5 +1,4 @@
-use Rattle.std.proofs.Common.{rules, arith}
-use Rattle.std.proofs.lemmas.Grind.{common_steps}
+use Rattle.std.proofs.Common.{rules}
 use Rattle.mz_base.specs.Lines.{lines_of}
 use Rattle.mz_base.proofs.lines.cut_lines.Goals as goal
 

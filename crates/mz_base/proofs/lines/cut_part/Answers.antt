@@ -1,5 +1,5 @@
-use Rattle.std.proofs.Common.{◌≡◌, ℕ, ◌+◌, ◌-◌, ◌<◌, ◌≤◌, Bool, cond, true, false, ltb, eqb, List, [], ◌∷◌, Option, Some, None, length, take, drop, sym, ap, refl, ◌∙◌, rules, arith}
-use Rattle.std.specs.List.{slice_split, position_or_len, position, before_first, after_first}
+use Rattle.std.proofs.Common.{◌≡◌, ℕ, ◌+◌, ◌-◌, ◌<◌, ◌≤◌, Bool, cond, true, false, ltb, eqb, List, [], ◌∷◌, Some, None, length, take, drop, sym, refl, arith}
+use Rattle.std.specs.List.{slice_split, position_or_len, position}
 use Rattle.std.proofs.lemmas.Bool.Decides.{nat_tests}
 use Rattle.std.proofs.lemmas.List.{take_rest}
 use Rattle.std.proofs.lemmas.List.Splits.{slice_split_first, slice_split_none}

@@ -1,5 +1,4 @@
-use Rattle.std.proofs.Common.{rules, sym, ap, ◌∙◌}
-use Rattle.std.specs.Result.{result_ok}
+use Rattle.std.proofs.Common.{rules, sym}
 use Rattle.mz_base.specs.Numbers.{unsigned_of}
 use Rattle.mz_base.proofs.NumberLemmas.{AreFewDigits-numeral, parse-numeral, digits_value-small}
 use Rattle.mz_base.proofs.numbers.unsigned.Goals as goal

@@ -4,9 +4,9 @@ use Rattle.conn_matrix.proofs.matrix.Matrix.read.Goals as goal
 
 pub returns-in-Some : goal.returns-in-Some
 returns-in-Some c =
-    rw (← c.of-lines.ensures, c.in-Some.ensures.steps) c.read_table.ensures
+    rw (← c.of-lines.ensures.lines, c.in-Some.ensures.steps) c.read_table.ensures
 
 pub returns-in-None : goal.returns-in-None
 unfolding table_in
 returns-in-None c =
-    rw (← c.of-lines.ensures, c.in-None.ensures.steps.0) (search rules)
+    rw (← c.of-lines.ensures.lines, c.in-None.ensures.steps.0) (search rules)
