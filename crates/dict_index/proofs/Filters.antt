@@ -48,3 +48,11 @@ pub flat_map-none : {X Y : Type 0} (f : X → List Y) (xs : List X) → All (λ 
 flat_map-none f [] each = refl
 flat_map-none f (x ∷ xs) each =
     rw (All-head (λ x. f x ≡ []) x xs each) (flat_map-none f xs (All-tail (λ x. f x ≡ []) x xs each))
+
+-- two tests that agree at the elements of a list keep the same of them
+pub filter-alike : {X : Type 0} (p q : X → Bool) (xs : List X) → All (λ x. p x ≡ q x) xs → filter p xs ≡ filter q xs
+filter-alike p q [] each = refl
+filter-alike p q (x ∷ xs) each =
+    let same = All-head (λ x. p x ≡ q x) x xs each in
+    let rest = filter-alike p q xs (All-tail (λ x. p x ≡ q x) x xs each) in
+    rw (same, rest) refl

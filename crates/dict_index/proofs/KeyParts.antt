@@ -3,12 +3,12 @@ use Rattle.std.proofs.Common.{◌≡◌, ℕ, suc, ◌+◌, ◌-◌, ◌<◌, �
 use Rattle.std.specs.List.{filter, flat_map, range_with_len, slice_range, starts_with}
 use Rattle.std.specs.List.Sorted.{IsSortedBy}
 use Rattle.std.proofs.lemmas.Cmp.{nat_eq_equiv}
-use Rattle.std.proofs.lemmas.List.Elements.{filter_agree}
+use Rattle.std.proofs.lemmas.List.Elements.{filter_agree, filter_passes}
 use Rattle.std.proofs.lemmas.List.FromFn.{get_or-range_with_len, length-range_with_len}
 use Rattle.std.proofs.lemmas.Slice.Eq.{bytes_eq-Decides}
 use lib.Pointwise.{pointwise}
 use Rattle.mz_base.specs.Data.{hits_to, is_text, rows_with}
-use Rattle.dict_index.specs.Order.{IsIndex, comes_before, standing_at, text_at}
+use Rattle.dict_index.specs.Order.{AllBegin, IsIndex, comes_before, standing_at, text_at}
 use Rattle.dict_index.proofs.Filters.{filter-all, filter-within, flat_map-none}
 use Rattle.dict_index.proofs.IndexRows.{part-sorted, rows-of_text}
 
@@ -72,6 +72,19 @@ module _ (key : List ℕ) (begin : ℕ) where
     exact-within : (places : List ℕ) (low end : ℕ) → low ≤ end → end ≤ length key → filter (λ place. is_text (part end) (text_at texts place)) (filter (begins low) places) ≡ filter (λ place. is_text (part end) (text_at texts place)) places
     exact-within places low end less within =
         filter-within (λ place. is_text (part end) (text_at texts place)) (begins low) (λ place is. let same = (bytes_eq-Decides (text_at texts place) (part end)).0 is in subst (λ cs. starts_with nat_eq cs (part low) ≡ true) (sym same) (part-starts low end less within)) places
+
+    -- those that begin with a part are all so
+    pub begun-AllBegin : (places : List ℕ) (end : ℕ) (begun : List ℕ) → begun ≡ filter (begins end) places → AllBegin texts (part end) begun
+    begun-AllBegin places end begun is =
+        subst (AllBegin texts (part end)) (sym is) (λ k d inside. sym ((bytes_eq-Decides (part end) (take (length (part end)) (text_at texts (get_or (filter (begins end) places) k d)))).0 (filter_passes (begins end) places k d inside)))
+
+    -- the part before is the part without its last letter
+    pub front-AllBegin : (places : List ℕ) (end : ℕ) (cs begun : List ℕ) → cs ≡ part end → begun ≡ filter (begins (end - 1)) places → begin < end → end ≤ length key → AllBegin texts (take (length cs - 1) cs) begun
+    front-AllBegin places end cs begun is-part is-begun more within =
+        let long = length-part end within in
+        let front : take (length (part end) - 1) (part end) ≡ part (end - 1) =
+        ap (λ n. take n (part end)) (omega (arith, long, more)) ∙ take-take (end - 1 - begin) (end - begin) (drop begin key) (omega (arith, more)) in
+        subst (λ front. AllBegin texts front begun) (sym (ap (λ ds. take (length ds - 1) ds) is-part ∙ front)) (begun-AllBegin places (end - 1) begun is-begun)
 
     module _ (places : List ℕ) (index : IsIndex texts places) where
       pub begun-sorted : (end : ℕ) (begun : List ℕ) → begun ≡ filter (begins end) places → IsSortedBy (comes_before texts) begun

@@ -1,6 +1,7 @@
 pub mod Filters
 pub mod IndexRows
 pub mod KeyParts
+pub mod Letters
 pub mod PackedTexts
 pub mod SameNumbers
 pub mod Standing

@@ -4,7 +4,7 @@ ghost use Rattle.mz_base.specs.declared.data.Hit.{Hit};
 ghost use Rattle.mz_base.specs.declared.data.TheConstants.{MOST_LOOKED_UP};
 ghost use Rattle.dict_index.specs.Order.{IsIndex};
 
-use crate::order::block;
+use crate::order::{block, exact, narrowed};
 use crate::packed::Packed;
 use mz_base::{Hit, MOST_LOOKED_UP, NoMemory};
 use std::alloc::Global;
@@ -27,11 +27,11 @@ pub fn hits_from(
     let mut begun = places;
     for end in begin + 1..key.len() + 1 {
         let part = part(key, begin, end);
-        begun = block(texts, begun, part.len(), part);
+        begun = narrowed(texts, begun, part);
         if begun.is_empty() {
             break;
         }
-        let found = block(texts, begun, part.len() + 1, part);
+        let found = exact(texts, begun, part);
         add_hits(&mut hits, end as u16, found)?;
     }
     Ok(hits)

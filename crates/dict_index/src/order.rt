@@ -1,9 +1,10 @@
-ghost use Rattle.std.specs.Prelude.{◌≡◌, ◌≤◌, IfOk, length, take};
+ghost use Rattle.std.specs.Prelude.{◌≡◌, ◌+◌, ◌-◌, ◌<◌, ◌≤◌, IfOk, length, nat_eq, take};
 ghost use Rattle.std.specs.Cmp.Lexicographic.{slice_cmp};
+ghost use Rattle.std.specs.List.{take_while};
 ghost use Rattle.std.specs.List.Sorted.{IsSortedBy};
 ghost use Rattle.std.specs.Ordering.{nat_cmp};
 ghost use Rattle.mz_base.specs.declared.data.TheConstants.{MOST_WORDS};
-ghost use Rattle.dict_index.specs.Order.{IsIndex, comes_before, standing_at};
+ghost use Rattle.dict_index.specs.Order.{AllBegin, IsIndex, comes_before, letter_cmp, standing_at, text_at};
 
 use crate::packed::Packed;
 use mz_base::NoMemory;
@@ -30,6 +31,54 @@ pub fn block<'a>(texts: &Packed, places: &'a [u32], width: usize, text: &[char])
     let count = rest.partition_point(|place| front_cmp(texts.get(*place), width, text).is_le());
     let (found, _) = rest.split_at(count);
     found
+}
+
+/// Of the places whose texts begin with all of this one but its last letter, those whose texts begin with all of it.
+/// They stand together, and that letter alone tells them.
+pub fn narrowed<'a>(texts: &Packed, places: &'a [u32], text: &[char]) -> &'a [u32]
+    requires sorted { IsSortedBy (comes_before texts.now) places.now }
+    requires some { 0 < length text.now }
+    requires begun { AllBegin texts.now (take (length text.now - 1) text.now) places.now }
+    ensures { result.now ≡ standing_at texts.now (length text.now) text.now places.now }
+{
+    let depth = text.len() - 1;
+    let letter = text[depth];
+    let before = places.partition_point(|place| letter_cmp(texts.get(*place), depth, letter).is_lt());
+    let (_, rest) = places.split_at(before);
+    let count = rest.partition_point(|place| letter_cmp(texts.get(*place), depth, letter).is_le());
+    let (found, _) = rest.split_at(count);
+    found
+}
+
+/// Of the places whose texts begin with this one, those whose texts are it: they stand first.
+pub fn exact<'a>(texts: &Packed, places: &'a [u32], text: &[char]) -> &'a [u32]
+    requires sorted { IsSortedBy (comes_before texts.now) places.now }
+    requires begun { AllBegin texts.now text.now places.now }
+    ensures { result.now ≡ standing_at texts.now (length text.now + 1) text.now places.now }
+{
+    let count = count_of_width(texts, places, text.len());
+    let (found, _) = places.split_at(count);
+    found
+}
+
+/// How many places stand first whose texts have so many letters.
+fn count_of_width(texts: &Packed, places: &[u32], width: usize) -> usize
+    ensures { result ≡ length (take_while (λ place. nat_eq (length (text_at texts.now place)) width) places.now) }
+{
+    places
+        .iter()
+        .take_while(|place| texts.get(**place).len() == width)
+        .count()
+}
+
+/// How the letter of a text behind so many others stands to this one. A text that ends there comes first.
+fn letter_cmp(text: &[char], depth: usize, letter: char) -> Ordering
+    ensures { result ≡ letter_cmp text.now depth letter }
+{
+    match text.get(depth) {
+        None => Ordering::Less,
+        Some(other) => other.cmp(&letter),
+    }
 }
 
 /// How a text that is cut after so many characters stands to another.
