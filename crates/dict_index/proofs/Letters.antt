@@ -1,5 +1,5 @@
 -- Texts that begin alike: the next letter tells them apart, and those that end there stand first.
-use Rattle.std.proofs.Common.{◌≡◌, ℕ, zero, suc, ◌+◌, ◌-◌, ◌<◌, ◌≤◌, Bool, true, false, cond, List, [], ◌∷◌, length, get_or, take, nat_eq, refl, sym, ap, subst, ◌∙◌, arith, inl, inr, true≢false, add-one, length-take}
+use Rattle.std.proofs.Common.{◌≡◌, ℕ, zero, suc, ◌+◌, ◌-◌, ◌<◌, ◌≤◌, Bool, true, false, cond, List, [], ◌∷◌, length, get_or, take, nat_eq, refl, sym, ap, ◌∙◌, arith, inl, inr, true≢false, add-one, length-take}
 use Rattle.std.specs.Cmp.Lexicographic.{slice_cmp}
 use Rattle.std.specs.List.{All, filter, take_while}
 use Rattle.std.specs.List.Sorted.{IsPartitionedBy, IsSortedBy}

@@ -9,6 +9,9 @@ use crate::packed::Packed;
 use mz_base::{Hit, MOST_LOOKED_UP, NoMemory};
 use std::alloc::Global;
 
+/// How many words one place of a key may begin with before a list of them grows.
+const HITS_AT_FIRST: usize = 32;
+
 /// The places of the texts that stand in the key from here on, by end and then by place.
 pub fn hits_from(
     alloc: Global,
@@ -22,7 +25,7 @@ pub fn hits_from(
     requires short { length key.now ≤ MOST_LOOKED_UP }
     ensures { IfOk result (λ hits. hits.items ≡ hits_at texts.now key.now begin) }
 {
-    let mut hits = Vec::new(alloc);
+    let mut hits = Vec::with_capacity(alloc, HITS_AT_FIRST)?;
     // The places whose texts begin with what of the key is passed so far.
     let mut begun = places;
     for end in begin + 1..key.len() + 1 {

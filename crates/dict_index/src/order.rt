@@ -43,7 +43,11 @@ pub fn narrowed<'a>(texts: &Packed, places: &'a [u32], text: &[char]) -> &'a [u3
 {
     let depth = text.len() - 1;
     let letter = text[depth];
-    let before = places.partition_point(|place| letter_cmp(texts.get(*place), depth, letter).is_lt());
+    let before = places.partition_point(|place| letter_cmp(
+        texts.get(*place),
+        depth,
+        letter,
+    ).is_lt());
     let (_, rest) = places.split_at(before);
     let count = rest.partition_point(|place| letter_cmp(texts.get(*place), depth, letter).is_le());
     let (found, _) = rest.split_at(count);

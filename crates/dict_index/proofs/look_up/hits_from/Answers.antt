@@ -18,7 +18,7 @@ loop-end-init c =
     let hits = hits_to texts key begin in
     record {
       begun = sym (ap (λ end. filter (begins key begin texts end) places) first ∙ begins-all key begin texts places);
-      hits = ap (λ found. found ++ flat_map hits (range_with_len (begin + 1) (length key + 1 - (begin + 1)))) c.new-hits.ensures.items ∙ ap (λ n. flat_map hits (range_with_len (begin + 1) n)) many;
+      hits = ap (λ found. found ++ flat_map hits (range_with_len (begin + 1) (length key + 1 - (begin + 1)))) c.in_ok-hits.ensures.items ∙ ap (λ n. flat_map hits (range_with_len (begin + 1) n)) many;
     }
 
 pub narrowed-begun-requires-clause-sorted : goal.narrowed-begun-requires-clause-sorted
