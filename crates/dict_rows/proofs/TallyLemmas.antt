@@ -1,65 +1,57 @@
--- A tally of readings, by their bytes and by their characters.
-use Rattle.std.proofs.Common.{◌≡◌, ℕ, ◌+◌, ◌<◌, ◌≤◌, cond, List, [], ◌∷◌, ◌++◌, length, encode_utf8, encode_utf8_all, refl, length-append, ap, sym, ◌∙◌, arith, Decides}
-use Rattle.std.specs.Str.{chars, bytes_eq, IsUtf8}
-use Rattle.std.specs.Char.{len_utf8}
-use Rattle.std.proofs.lemmas.Bool.Decides.{same_from_decides, nat_tests}
-use Rattle.std.proofs.lemmas.List.Sums.{fold_push, count_by-le-length}
+-- A tally after one row more.
+use Rattle.std.proofs.Common.{◌≡◌, ℕ, ◌+◌, ◌<◌, ◌≤◌, cond, List, [], ◌∷◌, ◌++◌, length, get_or, set, inl, inr, ◌∙◌, arith}
+use Rattle.std.proofs.lemmas.Bool.{cases_Bool, cases_eq}
+use Rattle.std.proofs.lemmas.List.{get_or-set_same, get_or-set_other}
+use Rattle.std.proofs.lemmas.Grind.{get_or_default_zero}
+use Rattle.std.proofs.lemmas.List.Sums.{fold_push}
 use Rattle.std.proofs.lemmas.Slice.Eq.{bytes_eq-Decides}
-use Rattle.std.proofs.lemmas.Str.{chars-encodes, encode_same, length-encode}
 use Rattle.mz_base.specs.Data.{is_text}
+use Rattle.mz_base.specs.declared.data.TheConstants.{MOST_HOMOPHONES}
 use Rattle.mz_base.specs.declared.data.WordRow.{WordRow}
 use Rattle.dict_rows.specs.Rows.{times_in}
-use Rattle.dict_rows.specs.Tally.{IsTally, times}
+use Rattle.dict_rows.specs.Tally.{IsTally, count_of}
+use Rattle.dict_rows.specs.declared.bucket.TheConstants.{BUCKETS}
 use Rattle.dict_rows.specs.declared.tally.Tally.{Tally}
-
--- a character takes a byte at least
-some_bytes : (c : ℕ) → 0 < len_utf8 c
-some_bytes c = grind (arith, nat_tests)
-
-spelt_some : (c : ℕ) (rest : List ℕ) → 0 < length (encode_utf8 c ++ rest)
-spelt_some c rest =
-    rw (length-append, length-encode) (let some = some_bytes c in omega arith)
-
--- bytes spell one text
-encodes-same : (cs ds : List ℕ) → encode_utf8_all cs ≡ encode_utf8_all ds → cs ≡ ds
-encodes-same [] [] is = refl
-encodes-same [] (d ∷ ds) is = absurd (omega (arith, spelt_some d (encode_utf8_all ds), ap length is))
-encodes-same (c ∷ cs) [] is = absurd (omega (arith, spelt_some c (encode_utf8_all cs), ap length is))
-encodes-same (c ∷ cs) (d ∷ ds) is =
-    let (first, rest) = encode_same c d (encode_utf8_all cs) (encode_utf8_all ds) is in
-    ap (λ x. x ∷ cs) first ∙ ap (λ xs. d ∷ xs) (encodes-same cs ds rest)
-
--- the bytes of a text are its spelling
-pub chars-of_spelling : (bytes letters : List ℕ) → IsUtf8 bytes → bytes ≡ encode_utf8_all letters → chars bytes ≡ letters
-chars-of_spelling bytes letters (cs, (scalar, spelt)) is =
-    ap chars (sym spelt) ∙ chars-encodes cs scalar ∙ encodes-same cs letters (spelt ∙ is)
-
--- the spelling of the characters of a text is its bytes
-pub encodes-chars : (bytes : List ℕ) → IsUtf8 bytes → encode_utf8_all (chars bytes) ≡ bytes
-encodes-chars bytes (cs, (scalar, spelt)) =
-    ap (λ bs. encode_utf8_all (chars bs)) (sym spelt) ∙ ap encode_utf8_all (chars-encodes cs scalar) ∙ spelt
-
--- two texts are one by their bytes where they are by their characters
-bytes_eq-is_text : (bytes other : List ℕ) → IsUtf8 bytes → IsUtf8 other → bytes_eq bytes other ≡ is_text (chars bytes) (chars other)
-bytes_eq-is_text bytes other utf8 other_utf8 =
-    let letters = bytes_eq-Decides (chars other) (chars bytes) in
-    let by_letters : Decides (is_text (chars bytes) (chars other)) (bytes ≡ other) = (
-      λ is. sym (encodes-chars bytes utf8) ∙ ap encode_utf8_all (sym (letters.0 is)) ∙ encodes-chars other other_utf8,
-      λ same. letters.1 (ap chars (sym same)),
-    ) in
-    same_from_decides _ _ (bytes_eq-Decides bytes other) by_letters
 
 times_in-push : (rows : List WordRow) (row : WordRow) (text : List ℕ) → times_in (rows ++ row ∷ []) text ≡ times_in rows text + cond (is_text text row.reading) 1 0
 times_in-push rows row text = fold_push (λ a x. a + cond (is_text text x.reading) 1 0) 0 rows row
 
--- one row more
-pub IsTally-push : (tally new : Tally) (rows : List WordRow) (row : WordRow) (key : List ℕ) → IsTally tally rows → IsUtf8 key → chars key ≡ row.reading → ((text : List ℕ) → times new text ≡ times tally text + cond (bytes_eq text key) 1 0) → IsTally new (rows ++ row ∷ [])
-IsTally-push tally new rows row key tallied utf8 spelt counted text text_utf8 =
-    counted text
-    ∙ ap (λ n. n + cond (bytes_eq text key) 1 0) (tallied text text_utf8)
-    ∙ ap (λ t. times_in rows (chars text) + cond t 1 0) (bytes_eq-is_text text key text_utf8 utf8 ∙ ap (is_text (chars text)) spelt)
-    ∙ sym (times_in-push rows row (chars text))
+-- where a count is raised, no other falls
+pub raised-grows : (counts : List ℕ) (place count : ℕ) → place < length counts → count ≡ get_or counts place count → (other : ℕ) → get_or counts other 0 ≤ get_or (set counts place (count + 1)) other 0
+raised-grows counts place count inside is other =
+    elim (cases_eq other place) [
+      | inl same ↦
+          let here : count ≡ get_or counts place 0 = is ∙ get_or_default_zero counts place count inside in
+          rw (same, get_or-set_same counts place (count + 1) 0 inside) (omega (arith, here))
+      | inr apart ↦ rw (get_or-set_other counts place other (count + 1) 0 apart) (omega arith)
+    ]
 
-pub times-few : (tally : Tally) (rows : List WordRow) (key : List ℕ) → IsTally tally rows → IsUtf8 key → times tally key ≤ length rows
-times-few tally rows key tallied utf8 =
-    rw (tallied key utf8) (count_by-le-length (λ (row : WordRow). is_text (chars key) row.reading) rows)
+pub raised-rises : (counts : List ℕ) (place count : ℕ) → place < length counts → count ≡ get_or counts place count → get_or counts place 0 < get_or (set counts place (count + 1)) place 0
+raised-rises counts place count inside is =
+    let here : count ≡ get_or counts place 0 = is ∙ get_or_default_zero counts place count inside in
+    rw (get_or-set_same counts place (count + 1) 0 inside) (omega (arith, here))
+
+-- no count falls, and that of the row's reading rises where it is not full
+pub IsTally-push : (tally new : Tally) (rows : List WordRow) (row : WordRow) → IsTally tally rows → length new.counts.items ≡ BUCKETS → ((bucket : ℕ) → get_or tally.counts.items bucket 0 ≤ get_or new.counts.items bucket 0) → (count_of tally row.reading < MOST_HOMOPHONES → count_of tally row.reading < count_of new row.reading) → IsTally new (rows ++ row ∷ [])
+IsTally-push tally new rows row tallied whole grown risen = record {
+  whole = whole;
+  counted = λ reading room.
+      elim (cases_Bool (is_text reading row.reading)) [
+        | inl is ↦
+            let same : row.reading ≡ reading = (bytes_eq-Decides row.reading reading).0 is in
+            let risen : count_of tally reading < MOST_HOMOPHONES → count_of tally reading < count_of new reading = rw same at risen in
+            let more : times_in (rows ++ row ∷ []) reading ≡ times_in rows reading + 1 = rw is at (times_in-push rows row reading) in
+            rw more (one_more _ _ _ (tallied.counted reading) risen (grown _) room)
+        | inr other ↦
+            let same : times_in (rows ++ row ∷ []) reading ≡ times_in rows reading + 0 = rw other at (times_in-push rows row reading) in
+            rw same (as_many _ _ _ (tallied.counted reading) (grown _) room)
+      ];
+}
+  where
+    one_more : (times count after : ℕ) → (count < MOST_HOMOPHONES → times ≤ count) → (count < MOST_HOMOPHONES → count < after) → count ≤ after → after < MOST_HOMOPHONES → times + 1 ≤ after
+    one_more times count after counted risen grown room =
+        let low : count < MOST_HOMOPHONES = omega (arith, grown, room) in
+        omega (arith, counted low, risen low)
+
+    as_many : (times count after : ℕ) → (count < MOST_HOMOPHONES → times ≤ count) → count ≤ after → after < MOST_HOMOPHONES → times + 0 ≤ after
+    as_many times count after counted grown room = omega (arith, counted (omega (arith, grown, room)), grown)

@@ -1,3 +1,4 @@
+pub mod Bucket
 pub mod Columns
 pub mod Reader
 pub mod Rows

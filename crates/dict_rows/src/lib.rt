@@ -2,6 +2,7 @@
 //! What a line gives: specs/Rows.antt, and docs/FORMATS.md.
 #![tactic(auto)]
 
+mod bucket;
 mod columns;
 mod laws;
 mod reader;

@@ -1,13 +1,15 @@
-ghost use Rattle.std.specs.Prelude.{◌≡◌, ◌≤◌, ◌++◌, ◌∷◌, [], Some, IfOk};
+ghost use Rattle.std.specs.Prelude.{◌≡◌, ◌≤◌, ◌||◌, ◌++◌, ◌∷◌, [], Some, IfOk, length, nat_le};
 ghost use Rattle.mz_base.specs.Answers.{Gives};
+ghost use Rattle.mz_base.specs.Limits.{is_long};
+ghost use Rattle.mz_base.specs.declared.data.TheConstants.{MOST_WORDS};
 ghost use Rattle.dict_rows.specs.Columns.{row_of_columns};
-ghost use Rattle.dict_rows.specs.Rows.{word_rows, fields_row, passes_limit};
+ghost use Rattle.dict_rows.specs.Rows.{word_rows, fields_row};
 
 use crate::columns::{Columns, columns_of, tested_numbers, word_of};
 use crate::tally::Tally;
 use mz_base::{
-    FaultKind, MOST_HOMOPHONES, MOST_IDS, MOST_WORDS, ReadError, RowReader, WordRow, is_long,
-    read_rows, text_of_line,
+    FaultKind, MOST_IDS, MOST_WORDS, ReadError, RowReader, WordRow, is_long, read_rows,
+    text_of_line,
 };
 use std::alloc::Global;
 
@@ -81,21 +83,21 @@ impl WordReader {
         ensures noted { IfOk result (λ row. Knows self.new (rows.now ++ row ∷ [])) }
     {
         let numbers = tested_numbers(self.ids, number, columns)?;
-        if self.is_full(rows, columns) {
+        if is_too_much(rows, columns) {
             return Err(FaultKind::Limit(number).into());
         }
         let row = word_of(alloc, self.ids, columns, &numbers)?;
-        self.tally.note(alloc, columns.reading)?;
+        if self.tally.is_full(rows, &row.reading) {
+            return Err(FaultKind::Limit(number).into());
+        }
+        self.tally.note(&row.reading);
         Ok(row)
     }
+}
 
-    fn is_full(&self, rows: &[WordRow], columns: &Columns<'_>) -> bool
-        requires { Knows self.now rows.now }
-        ensures { result ≡ passes_limit rows.now (row_of_columns columns.now) }
-    {
-        is_long(columns.reading)
-            || is_long(columns.value)
-            || MOST_WORDS <= rows.len()
-            || MOST_HOMOPHONES <= self.tally.count(columns.reading)
-    }
+/// Whether a text of the row is too long, or a row more after these is one too many.
+fn is_too_much(rows: &[WordRow], columns: &Columns<'_>) -> bool
+    ensures { result ≡ (is_long columns.now.reading.now || (is_long columns.now.value.now || nat_le MOST_WORDS (length rows.now))) }
+{
+    is_long(columns.reading) || is_long(columns.value) || MOST_WORDS <= rows.len()
 }

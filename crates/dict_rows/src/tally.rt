@@ -1,61 +1,70 @@
-ghost use Rattle.std.specs.Prelude.{◌≡◌, ◌+◌, ◌<◌, ◌^◌, ◌++◌, ◌∷◌, [], List, ℕ, IfOk, OnOk, if◌then◌else◌, string_bytes, length};
-ghost use Rattle.std.specs.Str.{bytes_eq, chars};
+ghost use Rattle.std.specs.Prelude.{◌≡◌, ◌++◌, ◌∷◌, [], List, IfOk, length, nat_le};
+ghost use Rattle.mz_base.specs.declared.data.TheConstants.{MOST_HOMOPHONES};
+ghost use Rattle.dict_rows.specs.Rows.{times_in};
+ghost use Rattle.dict_rows.specs.declared.bucket.TheConstants.{BUCKETS};
 
-use mz_base::{NoMemory, Text, WordRow};
+use crate::bucket::{BUCKETS, bucket_of};
+use mz_base::{MOST_HOMOPHONES, NoMemory, Text, WordRow};
 use std::alloc::Global;
-use std::collections::HashMap;
 
-/// How many rows have each reading.
+/// How many rows have a reading of each bucket, up to `MOST_HOMOPHONES`.
+///
+/// A bucket is a hash of a reading, so different readings may share one, and no reading is kept.
+/// Only where a bucket is full, the rows with exactly the reading are counted.
 #[derive(Drop)]
 pub struct Tally {
-    counts: HashMap<String, usize>,
+    counts: Vec<u16>,
 }
 
 impl Tally {
     ghost use Rattle.mz_base.specs.declared.data.WordRow.{WordRow};
-    ghost use Rattle.dict_rows.specs.Rows.{times_in};
-    ghost use Rattle.dict_rows.specs.Tally.{IsTally, times};
+    ghost use Rattle.dict_rows.specs.Tally.{IsTally, count_of};
 
     /// The tally of these rows.
     pub fn of(alloc: Global, rows: &[WordRow]) -> Result<Tally, NoMemory>
         ensures { IfOk result (λ tally. IsTally tally rows.now) }
     {
         let mut tally = Tally {
-            counts: HashMap::new(alloc),
+            counts: vec![in alloc; 0u16; BUCKETS]?,
         };
         for row in rows {
-            tally.add(key_of(alloc, &row.reading)?)?;
+            tally.note(&row.reading);
         }
         Ok(tally)
     }
 
-    /// The number of rows with this reading.
-    pub fn count(&self, reading: &str) -> usize
-        ensures count { result ≡ times self.now reading.now }
-        ensures rows { (rows : List WordRow) → IsTally self.now rows → result ≡ times_in rows (chars reading.now) }
+    /// Whether as many of these rows have this reading as may.
+    pub fn is_full(&self, rows: &[WordRow], reading: &Text) -> bool
+        requires { IsTally self.now rows.now }
+        ensures { result ≡ nat_le MOST_HOMOPHONES (times_in rows.now reading.now) }
     {
-        self.counts.get(reading).copied().unwrap_or(0)
+        MOST_HOMOPHONES <= self.count(reading) && MOST_HOMOPHONES <= times_in(rows, reading)
     }
 
     /// One row more has this reading.
-    pub fn note(&mut self, alloc: Global, reading: &str) -> Result<(), NoMemory>
-        requires { times self.old reading.now + 1 < 2 ^ 64 }
-        ensures { OnOk result ((rows : List WordRow) (row : WordRow) → IsTally self.old rows → row.reading ≡ chars reading.now → IsTally self.new (rows ++ row ∷ [])) }
+    pub fn note(&mut self, reading: &Text)
+        requires { length self.old.counts.items ≡ BUCKETS }
+        ensures { (rows : List WordRow) (row : WordRow) → IsTally self.old rows → row.reading ≡ reading.now → IsTally self.new (rows ++ row ∷ []) }
     {
-        self.add(String::from_str(alloc, reading)?)
+        if self.count(reading) < MOST_HOMOPHONES {
+            self.counts[bucket_of(reading.as_chars())] += 1;
+        }
     }
 
-    fn add(&mut self, reading: String) -> Result<(), NoMemory>
-        requires { times self.old (string_bytes reading) + 1 < 2 ^ 64 }
-        ensures { OnOk result ((text : List ℕ) → times self.new text ≡ times self.old text + (if bytes_eq text (string_bytes reading) then 1 else 0)) }
+    /// The count of the reading's bucket.
+    fn count(&self, reading: &Text) -> usize
+        requires { length self.now.counts.items ≡ BUCKETS }
+        ensures { result ≡ count_of self.now reading.now }
     {
-        *self.counts.entry(reading)?.or_insert(0) += 1;
-        Ok(())
+        self.counts[bucket_of(reading.as_chars())] as usize
     }
 }
 
-fn key_of(alloc: Global, reading: &Text) -> Result<String, NoMemory>
-    ensures { IfOk result (λ key. chars (string_bytes key) ≡ reading.now) }
+/// How many of these rows have exactly this reading.
+fn times_in(rows: &[WordRow], reading: &Text) -> usize
+    ensures { result ≡ times_in rows.now reading.now }
 {
-    Ok(format!(in alloc; "{reading}")?)
+    rows.iter()
+        .filter(|row| row.reading.as_chars() == reading.as_chars())
+        .count()
 }

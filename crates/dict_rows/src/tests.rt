@@ -1,4 +1,5 @@
 use super::*;
+use crate::bucket::bucket_of;
 use mz_base::{FaultKind, NoMemory, ReadError, WordRow};
 use std::alloc::Global;
 
@@ -221,6 +222,27 @@ fn limits_count_over_all_files(rt: HostRuntime) -> Result<(), ReadError> {
             counts(alloc, row.as_bytes(), before),
             Some(wanted),
             "after {count}"
+        );
+    }
+    Ok(())
+}
+
+#[test]
+fn tells_readings_of_one_bucket_apart(rt: HostRuntime) -> Result<(), NoMemory> {
+    assert_eq!(rt; bucket_of(&['あ']), bucket_of(&['ご', 'た', 'ぁ']));
+    let row = "あ\t1\t1\t0\t亜\n";
+    let other = "ごたぁ\t1\t1\t3\t誤\n";
+    for (rest, wanted) in [
+        ("", Ok((2_003, Some(3)))),
+        (row, Err(FaultKind::Limit(2_004))),
+    ] {
+        let alloc = rt.alloc();
+        let mut bytes = many(alloc, "", row, 2_000, "")?;
+        bytes.extend_from_slice(many(alloc, "", other, 3, rest)?.as_slice())?;
+        assert_eq!(rt;
+            counts(alloc, bytes.as_slice(), Vec::new(alloc)),
+            Some(wanted),
+            "with {rest:?}"
         );
     }
     Ok(())
