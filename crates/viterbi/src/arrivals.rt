@@ -49,7 +49,6 @@ pub fn arrivals_at_begin(alloc: Global) -> Arrivals
 
 /// Those at the position `to`, gathered anew only where `here` has those of another one.
 pub fn arrivals_from(
-    alloc: Global,
     entries: &[Entry],
     by_end: &[u32],
     table: &[Reached],
@@ -68,8 +67,8 @@ pub fn arrivals_from(
     if here.to == to {
         return Ok(here);
     }
-    let low = first_from(entries, by_end, here.past, to);
-    arrivals_at(alloc, entries, by_end, table, span, low, to)
+    let cursor = first_from(entries, by_end, here.past, to);
+    arrivals_at(entries, by_end, table, span, here.list, cursor, to)
 }
 
 /// The first place from the cursor on whose entry does not end before the position.
@@ -87,13 +86,13 @@ fn first_from(entries: &[Entry], by_end: &[u32], cursor: usize, position: u16) -
     by_end.len()
 }
 
-/// The entries of the span that end at the position `to`, from its cursor on.
+/// The entries of the span that end at the position `to`, from its cursor on, in place of those in the list.
 fn arrivals_at(
-    alloc: Global,
     entries: &[Entry],
     by_end: &[u32],
     table: &[Reached],
     span: &Span,
+    mut list: Vec<Arrival>,
     cursor: usize,
     to: u16,
 ) -> Result<Arrivals, NoMemory>
@@ -104,7 +103,7 @@ fn arrivals_at(
     ensures to { IfOk result (λ there. there.to ≡ to) }
     ensures all { IfOk result (AreAllArrivals entries.now by_end.now span.now table.now) }
 {
-    let mut list = Vec::new(alloc);
+    list.clear();
     for past in cursor..by_end.len() {
         let ordinal = by_end[past];
         let entry = entries[ordinal as usize];

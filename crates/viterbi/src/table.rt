@@ -44,15 +44,7 @@ pub fn table_of<D: DataSet>(
     let mut table = Vec::with_capacity(alloc, entries.len())?;
     let mut here = arrivals_at_begin(alloc);
     for next in entries {
-        here = arrivals_from(
-            alloc,
-            entries,
-            by_end,
-            table.as_slice(),
-            span,
-            here,
-            next.begin,
-        )?;
+        here = arrivals_from(entries, by_end, table.as_slice(), span, here, next.begin)?;
         table.push(row_of(set, span, here.list.as_slice(), next))?;
     }
     Ok(table)
@@ -97,7 +89,7 @@ pub fn reach_end<D: DataSet>(
     let entries = lattice.entries.as_slice();
     let by_end = lattice.by_end.as_slice();
     let begin = arrivals_at_begin(alloc);
-    let there = arrivals_from(alloc, entries, by_end, table, span, begin, span.end)?;
+    let there = arrivals_from(entries, by_end, table, span, begin, span.end)?;
     let end = Target {
         begin: span.end,
         lid: span.right,

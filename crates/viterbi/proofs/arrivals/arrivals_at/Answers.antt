@@ -11,7 +11,7 @@ use Rattle.viterbi.proofs.arrivals.arrivals_at.Goals.{then-span-entry+in_ok-push
 
 pub loop-past-init : goal.loop-past-init
 loop-past-init c =
-    subst (λ (xs : List Arrival). IsGatheredFrom c.args.entries.now c.args.by_end.now c.args.span.now c.args.table.now c.args.to c.args.cursor c.args.cursor xs) (sym c.new-list.ensures.items) (IsGatheredFrom-none c.args.entries.now c.args.by_end.now c.args.span.now c.args.table.now c.args.to c.args.cursor c.requires.at)
+    subst (λ (xs : List Arrival). IsGatheredFrom c.args.entries.now c.args.by_end.now c.args.span.now c.args.table.now c.args.to c.args.cursor c.args.cursor xs) (sym c.clear.ensures.items) (IsGatheredFrom-none c.args.entries.now c.args.by_end.now c.args.span.now c.args.table.now c.args.to c.args.cursor c.requires.at)
 
 pub returns-then-entry-to-clause-all : goal.returns-then-entry-to-clause-all
 returns-then-entry-to-clause-all c =
