@@ -22,7 +22,7 @@ use Rattle.viterbi.specs.declared.arrivals.Arrivals.{Arrivals}
 use Rattle.viterbi.specs.declared.arrivals.Choice.{Choice}
 use Rattle.viterbi.specs.declared.table.Reached.{Reached}
 use Rattle.viterbi.specs.declared.table.Target.{Target}
-use Rattle.viterbi.specs.Arrivals.{IsArrival, AreAllArrivals, AreArrivals, AreSmall, IsUpTo, IsCheapest, IsChoice, IsReachedBy, arrival, after_choice, at_begin, choice_of, target_of}
+use Rattle.viterbi.specs.Arrivals.{IsArrival, AreAllArrivals, AreArrivals, AreSound, IsUpTo, IsCheapest, IsChoice, IsReachedBy, arrival, after_choice, at_begin, choice_of, target_of}
 use Rattle.viterbi.specs.Back.{IsWayBack, cost_back}
 use Rattle.viterbi.specs.Table.{reached, no_reached, IsTrail, IsReached, IsTable, most_reached}
 use Rattle.viterbi.proofs.ArrivalLemmas.{AreAllArrivals-none, AreAllArrivals-push, each_push, last_or_before}
@@ -145,13 +145,13 @@ module _ (d : DataLists) (es : List Entry) (span : Span) where
             let r = are.all o inside ends (IsWayBack-forward es forward span.begin (entry es o).begin other way) in
             subst (λ y. IsBeaten d es span target.begin target.lid x.ordinal (row_of x at).back y) r.2 (beaten_at x at (arrival xs r.0) (are.each r.0 r.1) (least r.0 r.1))
 
-    pub IsReached-cheapest : (choice : Choice) → span.begin ≢ target.begin → IsCheapest d xs target.lid (length xs) choice → IsReached d es span table target.begin target.lid target.cost (after_choice target.cost (Some choice))
+    pub IsReached-cheapest : (choice : Choice) → span.begin ≢ target.begin → IsCheapest d xs target.lid choice → IsReached d es span table target.begin target.lid target.cost (after_choice target.cost (Some choice))
     IsReached-cheapest choice apart cheapest =
         let same = cheapest.choice_is in
         subst (λ c. IsReached d es span table target.begin target.lid target.cost (after_choice target.cost (Some c))) (sym same) (reached_over (arrival xs cheapest.place) (are.each cheapest.place cheapest.inside) apart (λ k low. subst (λ c. IsUpTo c (choice_of d target.lid (arrival xs k))) same (cheapest.least k low)))
 
     -- where some arrival is, one is chosen
-    pub IsReached-chosen : (choice : Option Choice) → span.begin ≢ target.begin → 0 < length xs → IsChoice d xs target.lid (length xs) choice → IsReached d es span table target.begin target.lid target.cost (after_choice target.cost choice)
+    pub IsReached-chosen : (choice : Option Choice) → span.begin ≢ target.begin → 0 < length xs → IsChoice d xs target.lid choice → IsReached d es span table target.begin target.lid target.cost (after_choice target.cost choice)
     IsReached-chosen None apart some none = absurd (omega (arith, some, none))
     IsReached-chosen (Some choice) apart some cheapest = IsReached-cheapest choice apart cheapest
 
@@ -159,9 +159,9 @@ equal_or_not : (a b : ℕ) → (a ≡ b) ⊎ (a ≢ b)
 equal_or_not a b = grind arith
 
 module _ (d : DataLists) (l : Lattice) (span : Span) (well : IsWellFormed d l) (spans : IsSpan d l span) (table : List Reached) (is : IsTable d l.entries span table) where
-  -- arrivals are small
-  pub AreSmall-arrivals : (to : ℕ) (xs : List Arrival) → length table ≤ length l.entries → AreArrivals l.entries span table to xs → AreSmall d xs
-  AreSmall-arrivals to xs fits are = record { ids = ids; costs = costs }
+  -- arrivals are sound
+  pub AreSound-arrivals : (to : ℕ) (xs : List Arrival) → length table ≤ length l.entries → AreArrivals l.entries span table to xs → AreSound d xs
+  AreSound-arrivals to xs fits are = record { ids = ids; costs = costs; rising = are.rising }
     where
       ids : (k : ℕ) → k < length xs → (arrival xs k).rid < d.ids
       ids k low =
@@ -188,7 +188,7 @@ module _ (d : DataLists) (l : Lattice) (span : Span) (well : IsWellFormed d l) (
       omega (arith, low)
 
   -- the target is reached from the left id at the span's begin, and else from the cheapest arrival
-  pub IsReached-by : (target : Target) (xs : List Arrival) (r : Reached) → length table ≤ length l.entries → span.begin ≤ target.begin → target.begin ≤ span.end → AreArrivals l.entries span table target.begin xs → (target.begin ≡ span.begin → r ≡ at_begin d span target) → (target.begin ≢ span.begin → (choice : Option Choice) × IsChoice d xs target.lid (length xs) choice × (r ≡ after_choice target.cost choice)) → IsReached d l.entries span table target.begin target.lid target.cost r
+  pub IsReached-by : (target : Target) (xs : List Arrival) (r : Reached) → length table ≤ length l.entries → span.begin ≤ target.begin → target.begin ≤ span.end → AreArrivals l.entries span table target.begin xs → (target.begin ≡ span.begin → r ≡ at_begin d span target) → (target.begin ≢ span.begin → (choice : Option Choice) × IsChoice d xs target.lid choice × (r ≡ after_choice target.cost choice)) → IsReached d l.entries span table target.begin target.lid target.cost r
   IsReached-by target xs r fits after ahead are begin chosen = by_place (equal_or_not target.begin span.begin)
     where
       forward : AreForward l.entries

@@ -1,7 +1,7 @@
 ghost use Rattle.std.specs.Prelude.{◌≡◌, ℕ, ◌*◌, ◌<◌, ◌≤◌, ◌+ℤ◌, [], length, IfOk};
 ghost use Rattle.conversion_meaning.specs.Bounds.{IsWithin};
 ghost use Rattle.conversion_meaning.specs.Lattices.{IsByEnd, IsCursor, entry};
-ghost use Rattle.viterbi.specs.Arrivals.{AreAllArrivals, AreSmall, EndBefore, IsCheaper, IsChoice, IsReachedBy};
+ghost use Rattle.viterbi.specs.Arrivals.{AreAllArrivals, AreSound, EndBefore, IsChoice, IsFirstLeast, IsLesser, IsReachedBy, cost_at};
 ghost use Rattle.viterbi.specs.Table.{most_reached, reached};
 
 use crate::table::{Reached, Target};
@@ -22,6 +22,13 @@ pub struct Arrival {
 pub struct Choice {
     pub cost: i64,
     pub ordinal: u32,
+}
+
+/// What an arrival costs before a left id, and its place among the arrivals.
+#[derive(Clone, Copy)]
+pub struct Offer {
+    pub cost: i64,
+    pub place: usize,
 }
 
 /// The entries of a span that end at one position.
@@ -124,7 +131,7 @@ fn arrivals_at(
 
 /// The target reached from the span's left id at its begin, and elsewhere by the cheapest arrival.
 pub fn reach<D: DataSet>(set: &D, arrivals: &[Arrival], span: &Span, target: &Target) -> Reached
-    requires small { AreSmall (D.lists set.now) arrivals.now }
+    requires sound { AreSound (D.lists set.now) arrivals.now }
     requires left { span.now.left < (D.lists set.now).ids }
     requires target { target.now.lid < (D.lists set.now).ids }
     ensures { IsReachedBy (D.lists set.now) span.now arrivals.now target.now result }
@@ -149,29 +156,53 @@ pub fn reach<D: DataSet>(set: &D, arrivals: &[Arrival], span: &Span, target: &Ta
 }
 
 fn cheapest<D: DataSet>(set: &D, arrivals: &[Arrival], lid: u16) -> Option<Choice>
-    requires small { AreSmall (D.lists set.now) arrivals.now }
+    requires sound { AreSound (D.lists set.now) arrivals.now }
     requires target { lid < (D.lists set.now).ids }
-    ensures { IsChoice (D.lists set.now) arrivals.now lid (length arrivals.now) result }
+    ensures { IsChoice (D.lists set.now) arrivals.now lid result }
 {
-    let mut best: Option<Choice> = None;
-    for arrival in arrivals {
-        let choice = Choice {
-            cost: plus(arrival.cost, set.conn(arrival.rid, lid)),
-            ordinal: arrival.ordinal,
-        };
-        best = Some(cheaper(best, choice));
+    if arrivals.is_empty() {
+        return None;
+    }
+    let least = first_least(set, arrivals, lid);
+    Some(Choice {
+        cost: least.cost,
+        ordinal: arrivals[least.place].ordinal,
+    })
+}
+
+/// The first of the least costs before the left id. Ordinals rise, so of several it has the least.
+fn first_least<D: DataSet>(set: &D, arrivals: &[Arrival], lid: u16) -> Offer
+    requires some { 0 < length arrivals.now }
+    requires sound { AreSound (D.lists set.now) arrivals.now }
+    requires target { lid < (D.lists set.now).ids }
+    ensures { IsFirstLeast (D.lists set.now) arrivals.now lid (length arrivals.now) result }
+{
+    let mut best = offer_at(set, arrivals, lid, 0);
+    for place in 1..arrivals.len() {
+        best = lesser(best, offer_at(set, arrivals, lid, place));
     }
     best
 }
 
-fn cheaper(best: Option<Choice>, other: Choice) -> Choice
-    ensures { IsCheaper best other result }
+fn offer_at<D: DataSet>(set: &D, arrivals: &[Arrival], lid: u16, place: usize) -> Offer
+    requires inside { place < length arrivals.now }
+    requires sound { AreSound (D.lists set.now) arrivals.now }
+    requires target { lid < (D.lists set.now).ids }
+    ensures place { result.place ≡ place }
+    ensures cost { result.cost ≡ cost_at (D.lists set.now) arrivals.now lid place }
 {
-    match best {
-        Some(best) if best.cost < other.cost => best,
-        Some(best) if best.cost == other.cost && best.ordinal <= other.ordinal => best,
-        _ => other,
+    let arrival = arrivals[place];
+    Offer {
+        cost: plus(arrival.cost, set.conn(arrival.rid, lid)),
+        place,
     }
+}
+
+// A choice between two values needs no branch, which processors would often guess wrong.
+fn lesser(best: Offer, other: Offer) -> Offer
+    ensures { IsLesser best other result }
+{
+    if other.cost < best.cost { other } else { best }
 }
 
 fn plus(cost: i64, more: i32) -> i64

@@ -4,7 +4,7 @@ ghost use Rattle.conversion_meaning.specs.Bounds.{IsWithin};
 ghost use Rattle.conversion_meaning.specs.Lattices.{IsWellFormed};
 ghost use Rattle.conversion_meaning.specs.Paths.{IsSpan};
 ghost use Rattle.conversion_meaning.specs.Potentials.{is_in, ordinals_in};
-ghost use Rattle.viterbi.specs.Arrivals.{AreSmall, IsReachedBy, target_of};
+ghost use Rattle.viterbi.specs.Arrivals.{AreSound, IsReachedBy, target_of};
 ghost use Rattle.viterbi.specs.Table.{IsReached, IsTrail, IsWholeTable, most_reached, no_reached, reached};
 
 use crate::arrivals::{Arrival, arrivals_at_begin, arrivals_from, reach};
@@ -52,7 +52,7 @@ pub fn table_of<D: DataSet>(
 
 /// The row of the entry that comes next, by the arrivals at its begin.
 fn row_of<D: DataSet>(set: &D, span: &Span, arrivals: &[Arrival], next: &Entry) -> Reached
-    requires small { AreSmall (D.lists set.now) arrivals.now }
+    requires sound { AreSound (D.lists set.now) arrivals.now }
     requires left { span.now.left < (D.lists set.now).ids }
     requires next { next.now.lid < (D.lists set.now).ids }
     requires cost { IsCost next.now.cost }

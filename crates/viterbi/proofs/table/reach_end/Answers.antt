@@ -1,9 +1,21 @@
-use Rattle.std.proofs.Common.{subst, List, arith, pos}
+use Rattle.std.proofs.Common.{sym, subst, List, arith, pos}
 use Rattle.viterbi.specs.declared.arrivals.Arrival.{Arrival}
 use Rattle.viterbi.specs.declared.table.Target.{Target}
-use Rattle.viterbi.specs.Arrivals.{AreArrivals, IsReachedBy}
-use Rattle.viterbi.proofs.TableLemmas.{IsReached-by}
+use Rattle.viterbi.specs.Arrivals.{AreArrivals, AreSound, IsReachedBy}
+use Rattle.viterbi.proofs.TableLemmas.{AreSound-arrivals, IsReached-by}
 use Rattle.viterbi.proofs.table.reach_end.Goals as goal
+
+pub reach-requires-clause-sound : goal.reach-requires-clause-sound
+reach-requires-clause-sound g c =
+    let d = g.D.DataSet.lists c.args.set.now in
+    let l = c.args.lattice.now in
+    let span = c.args.span.now in
+    let table = c.args.table.now in
+    let there = c.in_ok-there.there in
+    let xs = there.list.items in
+    let are : AreArrivals l.entries span table there.to xs = subst (λ es. AreArrivals es span table there.to xs) c.as_slice-entries.ensures c.in_ok-there.ensures.all.are in
+    let count = c.requires.table.count in
+    subst (λ (ys : List Arrival). AreSound d ys) (sym c.as_slice.ensures.value) (AreSound-arrivals d l span c.requires.well c.requires.span table c.requires.table.is there.to xs (omega (arith, count)) are)
 
 pub returns : goal.returns
 returns g c =

@@ -4,10 +4,25 @@ use Rattle.conversion_meaning.specs.Lattices.{entry}
 use Rattle.conversion_meaning.specs.Potentials.{is_in}
 use Rattle.viterbi.specs.declared.arrivals.Arrival.{Arrival}
 use Rattle.viterbi.specs.declared.table.Reached.{Reached}
-use Rattle.viterbi.specs.Arrivals.{AreAllArrivals, IsReachedBy, target_of}
+use Rattle.viterbi.specs.Arrivals.{AreAllArrivals, AreArrivals, AreSound, IsReachedBy, target_of}
 use Rattle.viterbi.specs.Table.{no_reached}
-use Rattle.viterbi.proofs.TableLemmas.{IsSoFar, IsSoFar-next}
+use Rattle.viterbi.proofs.TableLemmas.{AreSound-arrivals, IsSoFar, IsSoFar-next}
 use Rattle.viterbi.proofs.table.table_of.Goals as goal
+
+pub row_of-requires-clause-sound : goal.row_of-requires-clause-sound
+row_of-requires-clause-sound g c =
+    let d = g.D.DataSet.lists c.args.set.now in
+    let l = c.args.lattice.now in
+    let span = c.args.span.now in
+    let table = c.loop-next.table.items in
+    let here = c.in_ok-here.here in
+    let xs = here.list.items in
+    let entries_are = c.as_slice-entries.ensures in
+    let are : AreArrivals l.entries span table here.to xs = subst (λ es. AreArrivals es span table here.to xs) entries_are (subst (λ t. AreArrivals c.as_slice-entries.result.now span t here.to xs) c.as_slice.ensures.value c.in_ok-here.ensures.all.are) in
+    let count = c.loop-next.invariant.count in
+    let low = c.loop-next-test.true in
+    let all = ap (λ es. length es) entries_are in
+    subst (λ (ys : List Arrival). AreSound d ys) (sym c.as_slice-in-loop-next.ensures.value) (AreSound-arrivals d l span c.requires.well c.requires.span table c.loop-next.invariant.is here.to xs (omega (arith, count, low, all)) are)
 
 pub loop-next-preserved : goal.loop-next-preserved
 loop-next-preserved g c =
