@@ -1,6 +1,7 @@
 ghost use Rattle.std.specs.Prelude.{◌≡◌, ◌<◌, ◌≤◌, ◌++◌, length, OnOk, option_to_list, map, All};
 ghost use Rattle.mz_base.specs.Data.{is_text};
 ghost use Rattle.conversion_meaning.specs.Entries.{char_entries, entry_of, node, run_entries, suppressed, user_entries, user_entry, word_entries, word_entry};
+ghost use Rattle.lattice.specs.Runs.{may_begin_run};
 
 use crate::run::is_run;
 use mz_base::{DataSet, Entry, Hit, NoMemory, Source, UserWords, class_of};
@@ -128,20 +129,22 @@ pub(crate) fn push_char<D: DataSet>(
     Ok(())
 }
 
-/// Adds the run, where the part is one.
+/// Adds the run, where the part is one; `may_run` says whether a run may begin here.
 #[tactic(auto, unfolding(conversion_meaning::specs::Entries::run_entries))]
 pub(crate) fn push_run<D: DataSet>(
     set: &D,
     key: &[char],
+    may_run: bool,
     begin: u16,
     end: u16,
     out: &mut Vec<Entry>,
 ) -> Result<(), NoMemory>
     requires forward { begin < end }
     requires inside { end ≤ length key.now }
+    requires may_run { may_run ≡ may_begin_run key.now begin }
     ensures { OnOk result (out.new.items ≡ out.old.items ++ run_entries (D.lists set.now) key.now begin end) }
 {
-    if is_run(key, begin, end) {
+    if is_run(key, may_run, begin, end) {
         out.push(node(set, key, Source::Run, begin, end))?;
     }
     Ok(())

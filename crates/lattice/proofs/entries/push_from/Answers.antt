@@ -2,12 +2,13 @@ use Rattle.std.proofs.Common.{rules, Vec, Global, ap, sym, ◌∙◌, ◌≡◌,
 use Rattle.std.specs.List.{flat_map, range_with_len}
 use Rattle.mz_base.specs.Data.{hits_at, hits_to, readings}
 use Rattle.mz_base.specs.declared.lattice.Entry.{Entry}
-use Rattle.conversion_meaning.specs.Entries.{entries_from, entries_in, is_cut}
+use Rattle.conversion_meaning.specs.Entries.{char_entries, entries_from, entries_in, is_cut, run_entries, user_entries, word_entries}
 use Rattle.lattice.proofs.EntrySteps.{entries_in-cut, entries_in-uncut}
+use Rattle.lattice.proofs.GroupLemmas.{four_groups}
 use Rattle.lattice.proofs.HitLemmas.{first_hits, later_hits}
 use Rattle.lattice.proofs.RangeLemmas.{flat_map_step}
 use Rattle.lattice.proofs.entries.push_from.Goals as goal
-use Rattle.lattice.proofs.entries.push_from.Goals.{then-not-is_cut+in_ok-push_part, else-not-is_cut}
+use Rattle.lattice.proofs.entries.push_from.Goals.{then-not-is_cut+in_ok-push_rows+in_ok-push_text, else-not-is_cut}
 
 pub loop-end-init : goal.loop-end-init
 unfolding entries_from hits_at
@@ -22,8 +23,8 @@ loop-end-init g c =
       added = ap (λ n. c.args.out.now.items ++ flat_map (entries_in d (g.U.UserWords.rows c.args.user.now) key c.args.bounds.now begin) (range_with_len (begin + 1) n)) (sym count);
     }
 
-pub push_part-requires-clause-hits : goal.push_part-requires-clause-hits
-push_part-requires-clause-hits g c =
+pub push_rows-requires-clause-hits : goal.push_rows-requires-clause-hits
+push_rows-requires-clause-hits g c =
     let d = g.D.DataSet.lists c.args.set.now in
     c.split_at.ensures.front ∙ first_hits (readings d) c.args.key.now c.args.begin c.loop-end.end (length c.args.key.now + 1) c.count_at.result c.loop-end.left.now c.loop-end-test.true c.loop-end.invariant.hits c.count_at.ensures
 
@@ -39,9 +40,10 @@ loop-end-preserved g c =
     let all = c.args.out.now.items ++ entries_from d rows key c.args.bounds.now c.args.begin in
     let grown : c.if-not-is_cut.out.items ≡ out ++ of end = (
     elim c.if-not-is_cut.branch [
-      | then-not-is_cut+in_ok-push_part w ↦ (
+      | then-not-is_cut+in_ok-push_rows+in_ok-push_text w ↦ (
           let uncut : is_cut c.args.bounds.now c.args.begin end ≡ false = search rules in
-          ap (λ (v : Vec Entry Global). v.items) w.out-is ∙ w.in_ok-push_part.ensures ∙ ap (λ xs. out ++ xs) (sym (entries_in-uncut d rows key c.args.bounds.now c.args.begin end uncut))
+          let groups = four_groups out (user_entries d rows key c.args.begin end) (word_entries d key c.args.begin end) (char_entries d key c.args.begin end) (run_entries d key c.args.begin end) _ _ w.in_ok-push_rows.ensures w.in_ok-push_text.ensures in
+          ap (λ (v : Vec Entry Global). v.items) w.out-is ∙ groups ∙ ap (λ xs. out ++ xs) (sym (entries_in-uncut d rows key c.args.bounds.now c.args.begin end uncut))
           )
       | else-not-is_cut w ↦ (
           let cut : is_cut c.args.bounds.now c.args.begin end ≡ true = search rules in

@@ -2,10 +2,10 @@ use Rattle.std.proofs.Common.{◌<◌, sym, subst, List, length}
 use Rattle.std.specs.List.{All}
 use Rattle.std.proofs.lemmas.Result.{on_ok_weaker}
 use Rattle.mz_base.specs.declared.data.Hit.{Hit}
-use Rattle.lattice.proofs.GroupLemmas.{four_groups}
+use Rattle.lattice.proofs.GroupLemmas.{two_groups}
 use Rattle.lattice.proofs.HitLemmas.{word_entries-hits}
 use Rattle.lattice.proofs.PlaceLemmas.{hits_are_rows}
-use Rattle.lattice.proofs.entries.push_part.Goals as goal
+use Rattle.lattice.proofs.entries.push_rows.Goals as goal
 
 pub push_words-requires : goal.push_words-requires
 push_words-requires g c =
@@ -16,4 +16,4 @@ pub returns : goal.returns
 returns g c =
     let d = g.D.DataSet.lists c.args.set.now in
     let spelt = word_entries-hits d c.args.key.now c.args.begin c.args.end c.args.hits.now c.requires.hits in
-    on_ok_weaker c.push_run.result (λ fourth. four_groups _ _ _ _ _ _ _ _ _ _ c.in_ok-push_users.ensures c.in_ok-push_words.ensures spelt c.in_ok-push_char.ensures fourth) c.push_run.ensures
+    on_ok_weaker c.push_words.result (λ second. two_groups _ _ _ _ _ _ c.in_ok-push_users.ensures second spelt) c.push_words.ensures
