@@ -1,8 +1,10 @@
+pub mod EndCounts
 pub mod EndOrder
 pub mod EntrySteps
 pub mod GroupLemmas
 pub mod HitLemmas
 pub mod MadeLemmas
 pub mod PlaceLemmas
+pub mod PlacedLemmas
 pub mod RangeLemmas
 pub mod SmallSetLemmas

@@ -1,7 +1,7 @@
 -- What an entry of a lattice that was built stands for.
-use Rattle.std.proofs.Common.{◌≡◌, ap, subst, ℕ, ◌+◌, ◌<◌, Bool, true, false, cond, eqb, inl, inr, List, [], ◌∷◌, ◌++◌, Option, Some, None, length, arith}
+use Rattle.std.proofs.Common.{◌≡◌, ap, subst, ℕ, ◌+◌, ◌<◌, Bool, true, false, ◌≤◌, cond, eqb, inl, inr, List, [], ◌∷◌, ◌++◌, Option, Some, None, length, arith}
 use Rattle.std.specs.Prelude.{ℤ, slice_range}
-use Rattle.std.specs.List.{range_with_len}
+use Rattle.std.specs.List.{All, range_with_len}
 use Rattle.std.specs.Option.{option_map}
 use Rattle.std.proofs.lemmas.List.{length-map}
 use Rattle.mz_base.specs.Data.{DataLists, AreDataSound, is_text, pos_of, readings, rows_with}
@@ -15,7 +15,7 @@ use Rattle.mz_base.specs.declared.user.UserRow.{UserRow}
 use Rattle.conversion_meaning.specs.Entries.{suppressed, entry_of, user_entry, word_entry, node, is_run, user_entries, word_entries, char_entries, run_entries, is_cut, entries_in, entries_from, entries}
 use Rattle.conversion_meaning.specs.Lattices.{IsEntry, IsLatticeOf, entry, no_entry}
 use Rattle.conversion_meaning.proofs.EntryLemmas.{IsEntry-entries}
-use Rattle.conversion_meaning.proofs.Lists.{Among, Among-append_cases, Among-get_or, from_filter_map, from_flat_map, from_map}
+use Rattle.conversion_meaning.proofs.Lists.{All-from_among, Among, Among-append_cases, Among-get_or, from_filter_map, from_flat_map, from_map}
 use Rattle.lattice.specs.Rows.{IsThere}
 use Rattle.lattice.proofs.PlaceLemmas.{place_is_inside}
 
@@ -99,3 +99,12 @@ IsEntry-made d rows l ordinal sound made inside =
 pub IsThere-made : (d : DataLists) (rows : List UserRow) (l : Lattice) (ordinal : ℕ) → IsLatticeOf d rows l → ordinal < length l.entries → IsThere d rows (entry l.entries ordinal).source
 IsThere-made d rows l ordinal made inside =
     IsThere-entries d rows l.key l.bounds (entry l.entries ordinal) (among_made d rows l ordinal made inside)
+
+-- entries end inside the key
+pub ends_inside : (d : DataLists) (rows : List UserRow) (key bounds : List ℕ) (es : List Entry) → AreDataSound d → es ≡ entries d rows key bounds → All (λ (e : Entry). e.end ≤ length key) es
+ends_inside d rows key bounds es sound made =
+    All-from_among (λ (e : Entry). e.end ≤ length key) es inside
+  where
+    inside : (e : Entry) → Among e es → e.end ≤ length key
+    inside e h =
+        (IsEntry-entries d sound rows key bounds e (subst (λ (xs : List Entry). Among e xs) made h)).inside

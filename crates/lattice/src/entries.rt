@@ -89,7 +89,8 @@ fn push_rows<D: DataSet, U: UserWords>(
     ensures { OnOk result (out.new.items ≡ out.old.items ++ (user_entries (D.lists set.now) (U.rows user.now) key.now begin end ++ word_entries (D.lists set.now) key.now begin end)) }
 {
     push_users(set, user, key, begin, end, out)?;
-    push_words(set, hits, begin, out)
+    push_words(set, hits, begin, out)?;
+    Ok(())
 }
 
 /// Adds the entries of a part's own text; `may_run` says whether a run may begin here.

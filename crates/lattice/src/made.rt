@@ -22,7 +22,7 @@ pub fn build<D: DataSet, U: UserWords>(
     ensures well_formed { IfOk result (IsWellFormed (D.lists set.now)) }
 {
     let entries = entries_of(alloc, set, user, key, bounds)?;
-    let by_end = by_end(alloc, entries.as_slice())?;
+    let by_end = by_end(alloc, entries.as_slice(), key.len() as u16)?;
     Ok(Lattice {
         key: Seq::from_vec(Vec::from_slice(alloc, key)?),
         bounds: Seq::from_vec(Vec::from_slice(alloc, bounds)?),

@@ -1,6 +1,5 @@
 use Rattle.std.proofs.Common.{◌<◌, sym, subst, List, length}
 use Rattle.std.specs.List.{All}
-use Rattle.std.proofs.lemmas.Result.{on_ok_weaker}
 use Rattle.mz_base.specs.declared.data.Hit.{Hit}
 use Rattle.lattice.proofs.GroupLemmas.{two_groups}
 use Rattle.lattice.proofs.HitLemmas.{word_entries-hits}
@@ -16,4 +15,4 @@ pub returns : goal.returns
 returns g c =
     let d = g.D.DataSet.lists c.args.set.now in
     let spelt = word_entries-hits d c.args.key.now c.args.begin c.args.end c.args.hits.now c.requires.hits in
-    on_ok_weaker c.push_words.result (λ second. two_groups _ _ _ _ _ _ c.in_ok-push_users.ensures second spelt) c.push_words.ensures
+    two_groups _ _ _ _ _ _ c.in_ok-push_users.ensures c.in_ok-push_words.ensures spelt

@@ -1,4 +1,4 @@
-use Rattle.std.proofs.Common.{◌≡◌, ◌+◌, ◌++◌, ◌-◌, length}
+use Rattle.std.proofs.Common.{◌≡◌, ◌+◌, ◌++◌, length}
 use Rattle.mz_base.specs.Data.{hits_at, readings}
 use Rattle.lattice.specs.SmallSet.{small}
 use Rattle.lattice.proofs.HitLemmas.{hits_from}
