@@ -1,5 +1,5 @@
 -- Filters that keep all, none, or what another one keeps.
-use Rattle.std.proofs.Common.{◌≡◌, Bool, true, false, true≢false, cond, List, [], ◌∷◌, refl, sym, ap, ◌∙◌, inl, inr}
+use Rattle.std.proofs.Common.{◌≡◌, Bool, true, false, true≢false, cond, List, [], ◌∷◌, map, refl, sym, ap, ◌∙◌, inl, inr}
 use Rattle.std.specs.List.{All, filter, flat_map}
 use Rattle.std.proofs.lemmas.Bool.{cases_Bool, false_from_ne_true}
 use Rattle.std.proofs.lemmas.List.Elements.{All-head, All-tail}
@@ -56,3 +56,14 @@ filter-alike p q (x ∷ xs) each =
     let same = All-head (λ x. p x ≡ q x) x xs each in
     let rest = filter-alike p q xs (All-tail (λ x. p x ≡ q x) x xs each) in
     rw (same, rest) refl
+
+-- what is made of the kept elements is what another test keeps of all that is made
+pub map-filter : {X Y : Type 0} (f : X → Y) (p : X → Bool) (q : Y → Bool) (xs : List X) → All (λ x. p x ≡ q (f x)) xs → map f (filter p xs) ≡ filter q (map f xs)
+map-filter f p q [] each = refl
+map-filter f p q (x ∷ xs) each =
+    let same = All-head (λ x. p x ≡ q (f x)) x xs each in
+    let rest = map-filter f p q xs (All-tail (λ x. p x ≡ q (f x)) x xs each) in
+    elim (cases_Bool (p x)) [
+      | inl is ↦ rw (← same, is) (ap (λ ys. f x ∷ ys) rest)
+      | inr not ↦ rw (← same, not) rest
+    ]

@@ -1,7 +1,7 @@
+pub mod Codes
 pub mod Filters
 pub mod IndexRows
 pub mod KeyParts
-pub mod Letters
 pub mod PackedTexts
 pub mod SameNumbers
 pub mod Standing

@@ -1,11 +1,9 @@
 -- The places of texts, in the order of the texts.
-use Rattle.std.specs.Prelude.{◌≡◌, ℕ, zero, suc, Bool, List, [], ◌∷◌, All, length, nat_eq, slice_index_or, take, filter}
+use Rattle.std.specs.Prelude.{◌≡◌, ℕ, Bool, List, [], All, length, nat_eq, slice_index_or, take, filter}
 use Rattle.std.specs.Cmp.Lexicographic.{slice_cmp}
 use Rattle.std.specs.List.{range_with_len}
 use Rattle.std.specs.List.Sorted.{IsSortedBy, IsStableBy}
 use Rattle.std.specs.Ordering.{is_lt, nat_cmp}
-use Rattle.std.specs.declared.cmp.Ordering.{Ordering}
-use Rattle.std.specs.declared.cmp.Ordering.TheVariants.{Less}
 use lib.Pointwise.{pointwise}
 
 -- the text at a place
@@ -28,9 +26,3 @@ standing_at texts width text = filter (λ place. pointwise nat_eq text (take wid
 -- the text at each of these places begins with this one
 abbrev pub AllBegin : List (List ℕ) → List ℕ → List ℕ → Type 0
 AllBegin texts front = All (λ place. take (length front) (text_at texts place) ≡ front)
-
--- how the letter of a text behind so many others stands to this one; a text that ends there comes first
-abbrev pub letter_cmp : List ℕ → ℕ → ℕ → Ordering
-letter_cmp [] depth letter = Less
-letter_cmp (c ∷ text) zero letter = nat_cmp c letter
-letter_cmp (c ∷ text) (suc depth) letter = letter_cmp text depth letter

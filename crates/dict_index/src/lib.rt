@@ -3,6 +3,7 @@
 //! What the look-ups give: `mz_base`, specs/Data.antt. What the index keeps: specs/Order.antt.
 #![tactic(auto)]
 
+mod heads;
 mod look_up;
 mod order;
 mod packed;

@@ -2,8 +2,9 @@ ghost use Rattle.std.specs.Prelude.{◌≡◌, ◌++◌, ◌<◌, ◌≤◌, IfO
 ghost use Rattle.mz_base.specs.Data.{rows_with_prefix, hits_at};
 ghost use Rattle.mz_base.specs.declared.data.Hit.{Hit};
 ghost use Rattle.mz_base.specs.declared.data.TheConstants.{MOST_LOOKED_UP};
-ghost use Rattle.dict_index.specs.Order.{IsIndex};
+ghost use Rattle.dict_index.specs.Heads.{AreInOrder, places_in};
 
+use crate::heads::{Head, places_in};
 use crate::order::{block, exact, narrowed};
 use crate::packed::Packed;
 use mz_base::{Hit, MOST_LOOKED_UP, NoMemory};
@@ -16,18 +17,18 @@ const HITS_AT_FIRST: usize = 32;
 pub fn hits_from(
     alloc: Global,
     texts: &Packed,
-    places: &[u32],
+    heads: &[Head],
     key: &[char],
     begin: usize,
 ) -> Result<Vec<Hit>, NoMemory>
-    requires index { IsIndex texts.now places.now }
+    requires index { AreInOrder texts.now heads.now }
     requires inside { begin < length key.now }
     requires short { length key.now ≤ MOST_LOOKED_UP }
     ensures { IfOk result (λ hits. hits.items ≡ hits_at texts.now key.now begin) }
 {
     let mut hits = Vec::with_capacity(alloc, HITS_AT_FIRST)?;
-    // The places whose texts begin with what of the key is passed so far.
-    let mut begun = places;
+    // The heads whose texts begin with what of the key is passed so far.
+    let mut begun = heads;
     for end in begin + 1..key.len() + 1 {
         let part = part(key, begin, end);
         begun = narrowed(texts, begun, part);
@@ -44,14 +45,14 @@ pub fn hits_from(
 pub fn rows_from(
     alloc: Global,
     texts: &Packed,
-    places: &[u32],
+    heads: &[Head],
     prefix: &[char],
 ) -> Result<Vec<u32>, NoMemory>
-    requires { IsIndex texts.now places.now }
+    requires { AreInOrder texts.now heads.now }
     ensures { IfOk result (λ rows. rows.items ≡ rows_with_prefix texts.now prefix.now) }
 {
-    let found = block(texts, places, prefix.len(), prefix);
-    let mut rows = Vec::from_slice(alloc, found)?;
+    let found = block(texts, heads, prefix.len(), prefix);
+    let mut rows = places_in(alloc, found)?;
     rows.sort()?;
     Ok(rows)
 }
@@ -67,11 +68,14 @@ fn part(key: &[char], begin: usize, end: usize) -> &[char]
     part
 }
 
-fn add_hits(hits: &mut Vec<Hit>, end: u16, rows: &[u32]) -> Result<(), NoMemory>
-    ensures { OnOk result (hits.new.items ≡ hits.old.items ++ map (λ row. record { end = end; row = row }) rows.now) }
+fn add_hits(hits: &mut Vec<Hit>, end: u16, found: &[Head]) -> Result<(), NoMemory>
+    ensures { OnOk result (hits.new.items ≡ hits.old.items ++ map (λ row. record { end = end; row = row }) (places_in found.now)) }
 {
-    for row in rows {
-        hits.push(Hit { end, row: *row })?;
+    for head in found {
+        hits.push(Hit {
+            end,
+            row: head.place,
+        })?;
     }
     Ok(())
 }

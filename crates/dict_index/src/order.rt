@@ -4,8 +4,10 @@ ghost use Rattle.std.specs.List.{take_while};
 ghost use Rattle.std.specs.List.Sorted.{IsSortedBy};
 ghost use Rattle.std.specs.Ordering.{nat_cmp};
 ghost use Rattle.mz_base.specs.declared.data.TheConstants.{MOST_WORDS};
-ghost use Rattle.dict_index.specs.Order.{AllBegin, IsIndex, comes_before, letter_cmp, standing_at, text_at};
+ghost use Rattle.dict_index.specs.Heads.{AreHeads, code_of, places_in};
+ghost use Rattle.dict_index.specs.Order.{AllBegin, IsIndex, comes_before, standing_at};
 
+use crate::heads::{Head, code_of};
 use crate::packed::Packed;
 use mz_base::NoMemory;
 use std::alloc::Global;
@@ -21,68 +23,61 @@ pub fn places_in_order(alloc: Global, texts: &Packed) -> Result<Vec<u32>, NoMemo
     Ok(places)
 }
 
-/// The places whose text, cut after so many characters, is this one: they stand together.
-pub fn block<'a>(texts: &Packed, places: &'a [u32], width: usize, text: &[char]) -> &'a [u32]
-    requires { IsSortedBy (comes_before texts.now) places.now }
-    ensures { result.now ≡ standing_at texts.now width text.now places.now }
+/// Of these heads, those whose texts are this one when cut after so many characters: they stand together.
+pub fn block<'a>(texts: &Packed, heads: &'a [Head], width: usize, text: &[char]) -> &'a [Head]
+    requires { IsSortedBy (comes_before texts.now) (places_in heads.now) }
+    ensures { places_in result.now ≡ standing_at texts.now width text.now (places_in heads.now) }
 {
-    let before = places.partition_point(|place| front_cmp(texts.get(*place), width, text).is_lt());
-    let (_, rest) = places.split_at(before);
-    let count = rest.partition_point(|place| front_cmp(texts.get(*place), width, text).is_le());
+    let before = heads.partition_point(|head| front_cmp(
+        texts.get(head.place),
+        width,
+        text,
+    ).is_lt());
+    let (_, rest) = heads.split_at(before);
+    let count = rest.partition_point(|head| front_cmp(texts.get(head.place), width, text).is_le());
     let (found, _) = rest.split_at(count);
     found
 }
 
-/// Of the places whose texts begin with all of this one but its last letter, those whose texts begin with all of it.
+/// Of the heads whose texts begin with all of this one but its last letter, those whose texts begin with all of it.
 /// They stand together, and that letter alone tells them.
-pub fn narrowed<'a>(texts: &Packed, places: &'a [u32], text: &[char]) -> &'a [u32]
-    requires sorted { IsSortedBy (comes_before texts.now) places.now }
+pub fn narrowed<'a>(texts: &Packed, heads: &'a [Head], text: &[char]) -> &'a [Head]
+    requires sorted { IsSortedBy (comes_before texts.now) (places_in heads.now) }
+    requires are { AreHeads texts.now heads.now }
     requires some { 0 < length text.now }
-    requires begun { AllBegin texts.now (take (length text.now - 1) text.now) places.now }
-    ensures { result.now ≡ standing_at texts.now (length text.now) text.now places.now }
+    requires begun { AllBegin texts.now (take (length text.now - 1) text.now) (places_in heads.now) }
+    ensures found { places_in result.now ≡ standing_at texts.now (length text.now) text.now (places_in heads.now) }
+    ensures are { AreHeads texts.now result.now }
 {
     let depth = text.len() - 1;
-    let letter = text[depth];
-    let before = places.partition_point(|place| letter_cmp(
-        texts.get(*place),
-        depth,
-        letter,
-    ).is_lt());
-    let (_, rest) = places.split_at(before);
-    let count = rest.partition_point(|place| letter_cmp(texts.get(*place), depth, letter).is_le());
+    let code = text[depth] as u32 + 1;
+    let before = heads.partition_point(|head| code_of(texts, head, depth).cmp(&code).is_lt());
+    let (_, rest) = heads.split_at(before);
+    let count = rest.partition_point(|head| code_of(texts, head, depth).cmp(&code).is_le());
     let (found, _) = rest.split_at(count);
     found
 }
 
-/// Of the places whose texts begin with this one, those whose texts are it: they stand first.
-pub fn exact<'a>(texts: &Packed, places: &'a [u32], text: &[char]) -> &'a [u32]
-    requires sorted { IsSortedBy (comes_before texts.now) places.now }
-    requires begun { AllBegin texts.now text.now places.now }
-    ensures { result.now ≡ standing_at texts.now (length text.now + 1) text.now places.now }
+/// Of the heads whose texts begin with this one, those whose texts are it: they stand first.
+pub fn exact<'a>(texts: &Packed, heads: &'a [Head], text: &[char]) -> &'a [Head]
+    requires sorted { IsSortedBy (comes_before texts.now) (places_in heads.now) }
+    requires are { AreHeads texts.now heads.now }
+    requires begun { AllBegin texts.now text.now (places_in heads.now) }
+    ensures { places_in result.now ≡ standing_at texts.now (length text.now + 1) text.now (places_in heads.now) }
 {
-    let count = count_of_width(texts, places, text.len());
-    let (found, _) = places.split_at(count);
+    let count = count_of_width(texts, heads, text.len());
+    let (found, _) = heads.split_at(count);
     found
 }
 
-/// How many places stand first whose texts have so many letters.
-fn count_of_width(texts: &Packed, places: &[u32], width: usize) -> usize
-    ensures { result ≡ length (take_while (λ place. nat_eq (length (text_at texts.now place)) width) places.now) }
+/// How many heads stand first whose texts have no letter behind so many.
+fn count_of_width(texts: &Packed, heads: &[Head], width: usize) -> usize
+    ensures { result ≡ length (take_while (λ head. nat_eq (code_of texts.now head width) 0) heads.now) }
 {
-    places
+    heads
         .iter()
-        .take_while(|place| texts.get(**place).len() == width)
+        .take_while(|head| code_of(texts, head, width) == 0)
         .count()
-}
-
-/// How the letter of a text behind so many others stands to this one. A text that ends there comes first.
-fn letter_cmp(text: &[char], depth: usize, letter: char) -> Ordering
-    ensures { result ≡ letter_cmp text.now depth letter }
-{
-    match text.get(depth) {
-        None => Ordering::Less,
-        Some(other) => other.cmp(&letter),
-    }
 }
 
 /// How a text that is cut after so many characters stands to another.

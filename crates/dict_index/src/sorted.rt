@@ -3,6 +3,7 @@ ghost use Rattle.mz_base.specs.declared.data.TheConstants.{MOST_WORDS};
 ghost use Rattle.mz_base.specs.declared.data.WordRow.{WordRow};
 
 use crate::WordIndex;
+use crate::heads::{Head, heads_of};
 use crate::look_up::{hits_from, rows_from};
 use crate::order::places_in_order;
 use crate::packed::Packed;
@@ -14,19 +15,19 @@ use std::marker::Model;
 #[derive(Drop)]
 pub struct SortedIndex {
     texts: Packed,
-    /// The rows in the order of their readings.
-    places: Vec<u32>,
+    /// The heads of the readings, in the order of the readings.
+    heads: Vec<Head>,
 }
 
 impl Model for SortedIndex {
     ghost use Rattle.std.specs.Prelude.{ℕ, List};
-    ghost use Rattle.dict_index.specs.Order.{IsIndex};
+    ghost use Rattle.dict_index.specs.Heads.{AreInOrder};
 
     ghost Value = { List (List ℕ) };
 
     ghost view = { λ x. x.texts };
 
-    ghost invariant = { λ x. IsIndex x.texts x.places.items };
+    ghost invariant = { λ x. AreInOrder x.texts x.heads.items };
 }
 
 impl SortedIndex {
@@ -36,7 +37,8 @@ impl SortedIndex {
     {
         let texts = Packed::of_readings(alloc, rows)?;
         let places = places_in_order(alloc, &texts)?;
-        Ok(SortedIndex { texts, places })
+        let heads = heads_of(alloc, &texts, places.as_slice())?;
+        Ok(SortedIndex { texts, heads })
     }
 }
 
@@ -44,10 +46,10 @@ impl WordIndex for SortedIndex {
     ghost readings = { λ x. x };
 
     fn words_at(&self, alloc: Global, key: &[char], begin: usize) -> Result<Vec<Hit>, NoMemory> {
-        hits_from(alloc, &self.texts, self.places.as_slice(), key, begin)
+        hits_from(alloc, &self.texts, self.heads.as_slice(), key, begin)
     }
 
     fn words_with_prefix(&self, alloc: Global, prefix: &[char]) -> Result<Vec<u32>, NoMemory> {
-        rows_from(alloc, &self.texts, self.places.as_slice(), prefix)
+        rows_from(alloc, &self.texts, self.heads.as_slice(), prefix)
     }
 }

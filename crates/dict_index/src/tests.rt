@@ -4,7 +4,7 @@ use std::alloc::Global;
 use std::test::Fail;
 
 // The readings of the rows, a key, where to look, and end:row of each hit.
-const FOUND: [(&str, &str, usize, &str); 7] = [
+const FOUND: [(&str, &str, usize, &str); 8] = [
     ("", "きょうは", 0, ""),
     ("きょう きょう は は", "きょうは", 0, "3:0 3:1 "),
     ("きょう きょう は は", "きょうは", 1, ""),
@@ -12,6 +12,8 @@ const FOUND: [(&str, &str, usize, &str); 7] = [
     ("きょう きょう は は きょう", "きょうは", 0, "3:0 3:1 3:4 "),
     ("は きょうは きょ きょうと きょう きょうは", "きょうは", 0, "2:2 3:4 4:1 4:5 "),
     ("きょうは ょ", "きょう", 0, ""),
+    // More letters than a head has, and readings that differ behind them.
+    ("あいうえ あいうお あいう あいうえお あいえ", "あいうえお", 0, "3:2 4:0 5:3 "),
 ];
 
 #[test]
