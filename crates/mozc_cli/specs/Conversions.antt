@@ -68,6 +68,12 @@ pub record Claimed : Type 0 where
   pub set : DataLists
   pub certificate : Certificate
 
+-- what the lines of a certificate claim of a key in a set
+abbrev pub claim_in : DataLists → List ℕ → List ℕ → Result Claimed Refusal
+claim_in set key bytes = do
+  certificate ← or_text_fault (certificate_of (length key) (lines_of bytes))
+  Ok (record { set = set; certificate = certificate })
+
 -- What is asked to be verified: the set's files are read, then the certificate's file; the set is built, and then the
 -- certificate's lines are read.
 unfoldable pub claim_asked : Files → Asking → List ℕ → Result Claimed Refusal
@@ -75,8 +81,7 @@ claim_asked files asking name = do
   found ← set_files files asking
   bytes ← file files found.left name
   set ← set_in (all_files found.files)
-  certificate ← or_text_fault (certificate_of (length asking.key) (lines_of bytes))
-  Ok (record { set = set; certificate = certificate })
+  claim_in set asking.key bytes
 
 -- the certificate of the best path over a key, of all paths within the bounds, with no user words
 pub record IsAnswerTo (set : DataLists) (key bounds : List ℕ) (certificate : Certificate) : Type 0 where

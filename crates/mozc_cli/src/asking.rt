@@ -6,7 +6,7 @@ ghost use Rattle.mz_outside.specs.Causes.{Rose};
 ghost use Rattle.cert_text.specs.Readings.{certificate_of};
 ghost use Rattle.conversion_meaning.specs.Lattices.{AreBounds};
 ghost use Rattle.mozc_cli.specs.Claims.{claimed};
-ghost use Rattle.mozc_cli.specs.Conversions.{short_key, or_no_set, set_number, lines_of_set, set_files, all_files, set_asked, or_text_fault, claim_asked};
+ghost use Rattle.mozc_cli.specs.Conversions.{short_key, or_no_set, set_number, lines_of_set, set_files, all_files, set_asked, or_text_fault, claim_in, claim_asked};
 ghost use Rattle.mozc_cli.specs.Reading.{Files, Tells, IsRefusal};
 
 use crate::reading::{DataFile, Found, read_file, read_files};
@@ -69,7 +69,17 @@ pub fn claim_asked<S: Store>(
     let bytes = read_file(alloc, store, found.left, name)?;
     let files = all_files(alloc, found.files.into_vec())?;
     let set = set_in(alloc, files)?;
-    let certificate = certificate_in(alloc, &asking.key, bytes.as_slice())?;
+    claim_in(alloc, set, &asking.key, bytes.as_slice())
+}
+
+/// What the text of a certificate claims of a key in a set.
+fn claim_in(alloc: Global, set: Engine, key: &Text, bytes: &[u8]) -> Result<Claim, Refusal>
+    requires { length key.now ≤ MOST_KEY }
+    ensures told { Tells (λ claim. claimed claim (⟦<Engine as DataSet>⟧.lists claim.set)) result (claim_in (⟦<Engine as DataSet>⟧.lists set) key.now bytes.now) }
+    ensures bounds { IfOk result (λ claim. AreBounds key.now claim.certificate.bounds) }
+    ensures reads_nothing { result ≢ Err Refusal.ReadFault }
+{
+    let certificate = certificate_in(alloc, key, bytes)?;
     Ok(Claim { set, certificate })
 }
 
