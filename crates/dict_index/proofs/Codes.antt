@@ -114,7 +114,7 @@ module _ (texts : List (List ℕ)) (heads : List Head) (text : List ℕ) where
   module _ (are : AreHeads texts heads) where
     -- how the code of a head's next letter stands to that of the text's last letter
     abbrev pub by_code : ℕ → Head → Ordering
-    by_code letter head = nat_cmp (code_of texts head (length text - 1)) (suc letter)
+    by_code letter head = nat_cmp (code_of texts head (length text - 1)) (letter + 1)
 
     module _ (letter : ℕ) (last : letter ≡ get_or text (length text - 1) letter) (some : 0 < length text) (begun : AllBegin texts (take (length text - 1) text) places) where
       agrees : All (λ head. by_text (length text) head ≡ by_code letter head) heads
@@ -123,11 +123,12 @@ module _ (texts : List (List ℕ)) (heads : List Head) (text : List ℕ) where
           let xs = text_at texts head.place in
           let depth = length text - 1 in
           let is : suc depth ≡ length text = omega (arith, some) in
+          let one : suc letter ≡ letter + 1 = omega arith in
           let front : length (take depth text) ≡ depth = omega (arith, some, length-take depth text) in
           let there = begun k d.place (subst (λ n. k < n) (sym (length-map heads (λ head. head.place))) inside) in
           let starts = rw (get_or-map (λ head. head.place) heads k d) at there in
           let same : take depth xs ≡ take depth text = ap (λ n. take n xs) (sym front) ∙ starts in
-          ap (λ n. slice_cmp nat_cmp (take n xs) text) (sym is) ∙ last-tells depth xs text letter (sym is) same ∙ ap (λ c. nat_cmp c (suc (get_or text depth letter))) (sym (code-of-head texts head depth (are k d inside))) ∙ ap (λ l. nat_cmp (code_of texts head depth) (suc l)) (sym last)
+          ap (λ n. slice_cmp nat_cmp (take n xs) text) (sym is) ∙ last-tells depth xs text letter (sym is) same ∙ ap (λ c. nat_cmp c (suc (get_or text depth letter))) (sym (code-of-head texts head depth (are k d inside))) ∙ ap (λ l. nat_cmp (code_of texts head depth) (suc l)) (sym last) ∙ ap (λ n. nat_cmp (code_of texts head depth) n) one
 
       pub by_code-rises : IsSortedBy (comes_before texts) places → Rises (by_code letter) heads
       by_code-rises sorted i j d ordered inside =

@@ -3,5 +3,6 @@ pub mod Filters
 pub mod IndexRows
 pub mod KeyParts
 pub mod PackedTexts
+pub mod Points
 pub mod SameNumbers
 pub mod Standing

@@ -1,5 +1,5 @@
 -- The places of texts in their order, each with the first letters of its text.
-use Rattle.std.specs.Prelude.{◌≡◌, ℕ, zero, suc, ◌==◌, List, [], ◌∷◌, All, if◌then◌else◌, map}
+use Rattle.std.specs.Prelude.{◌≡◌, ℕ, zero, suc, ◌==◌, Bool, nat_lt, List, [], ◌∷◌, All, if◌then◌else◌, map}
 use Rattle.dict_index.specs.Order.{IsIndex, text_at}
 use Rattle.dict_index.specs.declared.heads.Head.{Head}
 
@@ -21,6 +21,10 @@ code_of texts head depth =
     if depth == 1 then head.second else
     if depth == 2 then head.third else
     code_at (text_at texts head.place) depth
+
+-- the letter behind so many others has a lower code
+abbrev pub is_below : List (List ℕ) → ℕ → ℕ → Head → Bool
+is_below texts depth code head = nat_lt (code_of texts head depth) code
 
 abbrev pub places_in : List Head → List ℕ
 places_in = map (λ head. head.place)

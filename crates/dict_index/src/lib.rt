@@ -1,8 +1,9 @@
 //! Look-up of a dictionary's rows by their readings: in a key, and by a prefix. Start at [`WordIndex`] and
 //! [`SortedIndex::build`].
-//! What the look-ups give: `mz_base`, specs/Data.antt. What the index keeps: specs/Order.antt.
+//! What the look-ups give: `mz_base`, specs/Data.antt. What the index keeps: specs/Order.antt and specs/Heads.antt.
 #![tactic(auto)]
 
+mod guesses;
 mod heads;
 mod look_up;
 mod order;

@@ -4,8 +4,9 @@ ghost use Rattle.mz_base.specs.declared.data.Hit.{Hit};
 ghost use Rattle.mz_base.specs.declared.data.TheConstants.{MOST_LOOKED_UP};
 ghost use Rattle.dict_index.specs.Heads.{AreInOrder, places_in};
 
+use crate::guesses::{Guesses, longer};
 use crate::heads::{Head, places_in};
-use crate::order::{block, exact, narrowed};
+use crate::order::{Stretch, block, exact, narrowed};
 use crate::packed::Packed;
 use mz_base::{Hit, MOST_LOOKED_UP, NoMemory};
 use std::alloc::Global;
@@ -18,6 +19,7 @@ pub fn hits_from(
     alloc: Global,
     texts: &Packed,
     heads: &[Head],
+    guesses: &Guesses,
     key: &[char],
     begin: usize,
 ) -> Result<Vec<Hit>, NoMemory>
@@ -28,14 +30,16 @@ pub fn hits_from(
 {
     let mut hits = Vec::with_capacity(alloc, HITS_AT_FIRST)?;
     // The heads whose texts begin with what of the key is passed so far.
-    let mut begun = heads;
+    let mut begun = Stretch { start: 0, heads };
+    let mut hash = 0;
     for end in begin + 1..key.len() + 1 {
         let part = part(key, begin, end);
-        begun = narrowed(texts, begun, part);
-        if begun.is_empty() {
+        hash = longer(hash, key[end - 1]);
+        begun = narrowed(texts, begun, part, guesses.at(hash));
+        if begun.heads.is_empty() {
             break;
         }
-        let found = exact(texts, begun, part);
+        let found = exact(texts, begun.heads, part);
         add_hits(&mut hits, end as u16, found)?;
     }
     Ok(hits)

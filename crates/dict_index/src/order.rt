@@ -1,12 +1,14 @@
-ghost use Rattle.std.specs.Prelude.{◌≡◌, ◌+◌, ◌-◌, ◌<◌, ◌≤◌, IfOk, length, nat_eq, take};
+ghost use Rattle.std.specs.Prelude.{◌≡◌, ℕ, slice_index_or, true, false, ◌+◌, ◌-◌, ◌<◌, ◌≤◌, IfOk, length, nat_eq, take};
 ghost use Rattle.std.specs.Cmp.Lexicographic.{slice_cmp};
 ghost use Rattle.std.specs.List.{take_while};
-ghost use Rattle.std.specs.List.Sorted.{IsSortedBy};
+ghost use Rattle.std.specs.List.Sorted.{IsPartitionPoint, IsPartitionedBy, IsSortedBy};
 ghost use Rattle.std.specs.Ordering.{nat_cmp};
 ghost use Rattle.mz_base.specs.declared.data.TheConstants.{MOST_WORDS};
-ghost use Rattle.dict_index.specs.Heads.{AreHeads, code_of, places_in};
+ghost use Rattle.dict_index.specs.Heads.{AreHeads, code_of, is_below, places_in};
+ghost use Rattle.dict_index.specs.declared.heads.Head.{Head};
 ghost use Rattle.dict_index.specs.Order.{AllBegin, IsIndex, comes_before, standing_at};
 
+use crate::guesses::Guess;
 use crate::heads::{Head, code_of};
 use crate::packed::Packed;
 use mz_base::NoMemory;
@@ -39,23 +41,88 @@ pub fn block<'a>(texts: &Packed, heads: &'a [Head], width: usize, text: &[char])
     found
 }
 
+/// Heads that stand together, and where they start among all.
+#[derive(Clone, Copy)]
+pub struct Stretch<'a> {
+    /// Only guesses use it, so nothing is promised of it.
+    pub start: usize,
+    pub heads: &'a [Head],
+}
+
 /// Of the heads whose texts begin with all of this one but its last letter, those whose texts begin with all of it.
-/// They stand together, and that letter alone tells them.
-pub fn narrowed<'a>(texts: &Packed, heads: &'a [Head], text: &[char]) -> &'a [Head]
-    requires sorted { IsSortedBy (comes_before texts.now) (places_in heads.now) }
-    requires are { AreHeads texts.now heads.now }
+/// They stand together, and that letter alone tells them. A right guess saves the search, and a wrong one is harmless.
+pub fn narrowed<'a>(
+    texts: &Packed,
+    stretch: Stretch<'a>,
+    text: &[char],
+    guess: Guess,
+) -> Stretch<'a>
+    requires sorted { IsSortedBy (comes_before texts.now) (places_in stretch.heads.now) }
+    requires are { AreHeads texts.now stretch.heads.now }
     requires some { 0 < length text.now }
-    requires begun { AllBegin texts.now (take (length text.now - 1) text.now) (places_in heads.now) }
-    ensures found { places_in result.now ≡ standing_at texts.now (length text.now) text.now (places_in heads.now) }
-    ensures are { AreHeads texts.now result.now }
+    requires begun { AllBegin texts.now (take (length text.now - 1) text.now) (places_in stretch.heads.now) }
+    ensures found { places_in result.heads.now ≡ standing_at texts.now (length text.now) text.now (places_in stretch.entry.heads.now) }
+    ensures are { AreHeads texts.now result.heads.now }
 {
     let depth = text.len() - 1;
     let code = text[depth] as u32 + 1;
-    let before = heads.partition_point(|head| code_of(texts, head, depth).cmp(&code).is_lt());
-    let (_, rest) = heads.split_at(before);
-    let count = rest.partition_point(|head| code_of(texts, head, depth).cmp(&code).is_le());
-    let (found, _) = rest.split_at(count);
-    found
+    let wanted = (guess.start as usize).wrapping_sub(stretch.start);
+    let before = first_from_code(texts, stretch.heads, depth, code, wanted);
+    let (_, rest) = stretch.heads.split_at(before);
+    let start = stretch.start.wrapping_add(before);
+    let wanted = (guess.end as usize).wrapping_sub(start);
+    let count = first_from_code(texts, rest, depth, code + 1, wanted);
+    let (heads, _) = rest.split_at(count);
+    Stretch { start, heads }
+}
+
+/// The first place whose letter has at least this code. The guess is tested first, and nothing is searched where it is
+/// right.
+fn first_from_code(texts: &Packed, heads: &[Head], depth: usize, code: u32, guess: usize) -> usize
+    requires { IsPartitionedBy (is_below texts.now depth code) heads.now }
+    ensures inside { result ≤ length heads.now }
+    ensures point { IsPartitionPoint (λ head. is_below texts.now depth code head ≡ true) (λ head. is_below texts.now depth code head ≡ false) heads.now result }
+{
+    if is_first_from_code(texts, heads, depth, code, guess) {
+        guess
+    } else {
+        heads.partition_point(|head| is_below(texts, depth, code, head))
+    }
+}
+
+/// Whether the letters before the place are below the code, and those from it on are not.
+fn is_first_from_code(texts: &Packed, heads: &[Head], depth: usize, code: u32, place: usize) -> bool
+    requires { IsPartitionedBy (is_below texts.now depth code) heads.now }
+    ensures point { result ≡ true → IsPartitionPoint (λ head. is_below texts.now depth code head ≡ true) (λ head. is_below texts.now depth code head ≡ false) heads.now place }
+    ensures inside { result ≡ true → place ≤ length heads.now }
+{
+    place <= heads.len()
+        && all_are_below(texts, heads, depth, code, place)
+        && none_is_below(texts, heads, depth, code, place)
+}
+
+/// Whether the letters before the place are below the code, by the last of them.
+fn all_are_below(texts: &Packed, heads: &[Head], depth: usize, code: u32, place: usize) -> bool
+    requires inside { place ≤ length heads.now }
+    requires partitioned { IsPartitionedBy (is_below texts.now depth code) heads.now }
+    ensures { result ≡ true → (k : ℕ) (d : Head) → k < place → is_below texts.now depth code (slice_index_or heads.now k d) ≡ true }
+{
+    place == 0 || is_below(texts, depth, code, &heads[place - 1])
+}
+
+/// Whether no letter from the place on is below the code, by the first of them.
+fn none_is_below(texts: &Packed, heads: &[Head], depth: usize, code: u32, place: usize) -> bool
+    requires inside { place ≤ length heads.now }
+    requires partitioned { IsPartitionedBy (is_below texts.now depth code) heads.now }
+    ensures { result ≡ true → (k : ℕ) (d : Head) → place ≤ k → k < length heads.now → is_below texts.now depth code (slice_index_or heads.now k d) ≡ false }
+{
+    place == heads.len() || !is_below(texts, depth, code, &heads[place])
+}
+
+fn is_below(texts: &Packed, depth: usize, code: u32, head: &Head) -> bool
+    ensures { result ≡ is_below texts.now depth code head.now }
+{
+    code_of(texts, head, depth) < code
 }
 
 /// Of the heads whose texts begin with this one, those whose texts are it: they stand first.

@@ -3,6 +3,7 @@ ghost use Rattle.mz_base.specs.declared.data.TheConstants.{MOST_WORDS};
 ghost use Rattle.mz_base.specs.declared.data.WordRow.{WordRow};
 
 use crate::WordIndex;
+use crate::guesses::Guesses;
 use crate::heads::{Head, heads_of};
 use crate::look_up::{hits_from, rows_from};
 use crate::order::places_in_order;
@@ -17,6 +18,7 @@ pub struct SortedIndex {
     texts: Packed,
     /// The heads of the readings, in the order of the readings.
     heads: Vec<Head>,
+    guesses: Guesses,
 }
 
 impl Model for SortedIndex {
@@ -38,7 +40,12 @@ impl SortedIndex {
         let texts = Packed::of_readings(alloc, rows)?;
         let places = places_in_order(alloc, &texts)?;
         let heads = heads_of(alloc, &texts, places.as_slice())?;
-        Ok(SortedIndex { texts, heads })
+        let guesses = Guesses::of(alloc, &texts, heads.as_slice())?;
+        Ok(SortedIndex {
+            texts,
+            heads,
+            guesses,
+        })
     }
 }
 
@@ -46,7 +53,14 @@ impl WordIndex for SortedIndex {
     ghost readings = { λ x. x };
 
     fn words_at(&self, alloc: Global, key: &[char], begin: usize) -> Result<Vec<Hit>, NoMemory> {
-        hits_from(alloc, &self.texts, self.heads.as_slice(), key, begin)
+        hits_from(
+            alloc,
+            &self.texts,
+            self.heads.as_slice(),
+            &self.guesses,
+            key,
+            begin,
+        )
     }
 
     fn words_with_prefix(&self, alloc: Global, prefix: &[char]) -> Result<Vec<u32>, NoMemory> {

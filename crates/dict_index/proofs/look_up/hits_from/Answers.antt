@@ -26,11 +26,11 @@ loop-end-init c =
 
 pub narrowed-begun-requires-clause-sorted : goal.narrowed-begun-requires-clause-sorted
 narrowed-begun-requires-clause-sorted c =
-    begun-sorted c.args.key.now c.args.begin c.args.texts.now (places_in c.args.heads.now) c.requires.index.index (c.loop-end.end - 1) (places_in c.loop-end.begun.now) c.loop-end.invariant.begun
+    begun-sorted c.args.key.now c.args.begin c.args.texts.now (places_in c.args.heads.now) c.requires.index.index (c.loop-end.end - 1) (places_in c.loop-end.begun.heads.now) c.loop-end.invariant.begun
 
 pub narrowed-begun-requires-clause-begun : goal.narrowed-begun-requires-clause-begun
 narrowed-begun-requires-clause-begun c =
-    front-AllBegin c.args.key.now c.args.begin c.args.texts.now (places_in c.args.heads.now) c.loop-end.end c.part-part.result.now (places_in c.loop-end.begun.now) c.part-part.ensures c.loop-end.invariant.begun (omega arith) (omega arith)
+    front-AllBegin c.args.key.now c.args.begin c.args.texts.now (places_in c.args.heads.now) c.loop-end.end c.part-part.result.now (places_in c.loop-end.begun.heads.now) c.part-part.ensures c.loop-end.invariant.begun (omega arith) (omega arith)
 
 pub exact-found-requires : goal.exact-found-requires
 exact-found-requires c =
@@ -39,10 +39,10 @@ exact-found-requires c =
     let texts = c.args.texts.now in
     let places = places_in c.args.heads.now in
     let end = c.loop-end.end in
-    let next = (places_in c.narrowed-begun.result.now) in
+    let next = (places_in c.narrowed-begun.result.heads.now) in
     let within : end ≤ length key = omega arith in
     let begun : next ≡ filter (begins key begin texts end) places =
-    begun-next key begin texts places (end - 1) end c.part-part.result.now (places_in c.loop-end.begun.now) next c.part-part.ensures c.loop-end.invariant.begun c.narrowed-begun.ensures.found (omega arith) within in
+    begun-next key begin texts places (end - 1) end c.part-part.result.now (places_in c.loop-end.begun.heads.now) next c.part-part.ensures c.loop-end.invariant.begun c.narrowed-begun.ensures.found (omega arith) within in
     record {
       sorted = begun-sorted key begin texts places c.requires.index.index end next begun;
       are = c.narrowed-begun.ensures.are;
@@ -58,10 +58,10 @@ loop-end-preserved c =
     let end = c.loop-end.end in
     let cs = c.part-part.result.now in
     let within : end ≤ length key = omega arith in
-    let begun : (places_in c.narrowed-begun.result.now) ≡ filter (begins key begin texts end) places =
-    begun-next key begin texts places (end - 1) end cs (places_in c.loop-end.begun.now) (places_in c.narrowed-begun.result.now) c.part-part.ensures c.loop-end.invariant.begun c.narrowed-begun.ensures.found (omega arith) within in
+    let begun : (places_in c.narrowed-begun.result.heads.now) ≡ filter (begins key begin texts end) places =
+    begun-next key begin texts places (end - 1) end cs (places_in c.loop-end.begun.heads.now) (places_in c.narrowed-begun.result.heads.now) c.part-part.ensures c.loop-end.invariant.begun c.narrowed-begun.ensures.found (omega arith) within in
     let found : (places_in c.exact-found.result.now) ≡ rows_with texts (part key begin end) =
-    found-exact key begin texts places c.requires.index.index end cs (places_in c.narrowed-begun.result.now) (places_in c.exact-found.result.now) c.part-part.ensures begun c.exact-found.ensures within in
+    found-exact key begin texts places c.requires.index.index end cs (places_in c.narrowed-begun.result.heads.now) (places_in c.exact-found.result.now) c.part-part.ensures begun c.exact-found.ensures within in
     let hits = hits_to texts key begin in
     let old = c.loop-end.hits.items in
     let last = length key + 1 in
@@ -92,13 +92,13 @@ returns c =
           let none : last - end ≡ 0 = omega (arith, past) in
           sym (append-nil old) ∙ ap (λ n. old ++ flat_map hits (range_with_len end n)) (sym none) ∙ c.loop-end.invariant.hits
       | then-loop-end-test+then-is_empty w ↦
-          let next = (places_in w.narrowed-begun.result.now) in
+          let next = (places_in w.narrowed-begun.result.heads.now) in
           let test = w.loop-end-test.true in
           let within : end ≤ length key = omega (arith, test) in
           let begun : next ≡ filter (begins key begin texts end) places =
-          begun-next key begin texts places (end - 1) end w.part-part.result.now (places_in c.loop-end.begun.now) next w.part-part.ensures c.loop-end.invariant.begun w.narrowed-begun.ensures.found (omega arith) within in
+          begun-next key begin texts places (end - 1) end w.part-part.result.now (places_in c.loop-end.begun.heads.now) next w.part-part.ensures c.loop-end.invariant.begun w.narrowed-begun.ensures.found (omega arith) within in
           let none : length next ≡ 0 =
-          length-map w.narrowed-begun.result.now (λ head. head.place) ∙ (Decides-eqb (length w.narrowed-begun.result.now) 0).0 (sym w.if-is_empty.ensures) in
+          length-map w.narrowed-begun.result.heads.now (λ head. head.place) ∙ (Decides-eqb (length w.narrowed-begun.result.heads.now) 0).0 (sym w.if-is_empty.ensures) in
           let empty : next ≡ [] = sym (take_all 0 next (omega (arith, none))) in
           sym (append-nil old) ∙ ap (λ more. old ++ more) (sym (none-left key begin texts places c.requires.index.index end (sym begun ∙ empty))) ∙ c.loop-end.invariant.hits
     ]
