@@ -1,5 +1,5 @@
 -- What a file's table has: a cost for each line, within the limits.
-use Rattle.std.proofs.Common.{◌≡◌, ℕ, suc, zero, ◌+◌, ◌-◌, ◌*◌, ◌<◌, ℤ, pos, Bool, cond, true, false, eqb, List, [], ◌∷◌, ◌++◌, Option, Some, None, Result, Ok, Err, length, get_or, option_to_list, refl, ap, sym, subst, ◌∙◌, append_assoc, append-nil, arith, add-zero}
+use Rattle.std.proofs.Common.{◌≡◌, ℕ, suc, zero, ◌+◌, ◌-◌, ◌*◌, ◌<◌, ℤ, pos, cond, true, false, eqb, List, [], ◌∷◌, ◌++◌, Option, Some, None, Ok, Err, length, get_or, option_to_list, refl, ap, sym, subst, ◌∙◌, append_assoc, append-nil, arith, add-zero}
 use Rattle.std.specs.List.{list_all}
 use Rattle.std.specs.Str.{is_utf8}
 use Rattle.std.proofs.lemmas.Bool.Decides.{nat_tests}
@@ -8,10 +8,9 @@ use Rattle.mz_base.specs.Answers.{◌>>=◌}
 use Rattle.mz_base.specs.Limits.{is_cost}
 use Rattle.mz_base.specs.Numbers.{signed_of, number_of}
 use Rattle.mz_base.specs.Rows.{rows_after}
-use Rattle.mz_base.specs.declared.fault.FaultKind.{FaultKind}
-use Rattle.mz_base.specs.declared.fault.FaultKind.TheVariants.{NotUtf8, Number, Range, Size, Count}
+use Rattle.mz_base.specs.declared.fault.FaultKind.TheVariants.{NotUtf8, Range, Size, Count}
 use Rattle.mz_base.proofs.LimitLemmas.{IsCost-from_test}
-use Rattle.conn_matrix.specs.Costs.{CostTable, IsTable, IsSquare, StandOnTheirLines, line_of_pair, table_in, squared, size_on, size_from, is_size, cost_from, cost_on, cost_row, cost_at, costs_in, is_empty, filled}
+use Rattle.conn_matrix.specs.Costs.{CostTable, IsTable, StandOnTheirLines, table_in, squared, size_on, size_from, is_size, cost_from, cost_on, cost_row, costs_in, is_empty, filled}
 use Rattle.conn_matrix.specs.declared.reader.TheConstants.{FIRST_COST_LINE}
 
 -- each line, numbered from here, has the cost at its place

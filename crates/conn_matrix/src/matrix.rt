@@ -1,11 +1,12 @@
-ghost use Rattle.std.specs.Prelude.{◌≡◌, ◌<◌, ◌≤◌, ◌∷◌};
+ghost use Rattle.std.specs.Prelude.{◌≡◌, ◌<◌, ◌≤◌, ◌∷◌, IfOk};
 ghost use Rattle.mz_base.specs.Answers.{Gives};
 ghost use Rattle.mz_base.specs.FileLines.{lines_left};
 ghost use Rattle.mz_base.specs.Lines.{lines_of};
 ghost use Rattle.conn_matrix.specs.Costs.{IsSquare, cost_at, table_in, squared};
 
+use crate::columns::columns_of;
 use crate::reader::{read_costs, read_size};
-use mz_base::{FaultKind, FileLines, MOST_IDS, ReadError};
+use mz_base::{FaultKind, FileLines, MOST_IDS, NoMemory, ReadError};
 use std::alloc::Global;
 use std::marker::Model;
 
@@ -14,16 +15,20 @@ use std::marker::Model;
 pub struct Matrix {
     size: u32,
     costs: Vec<i32>,
+    /// The same by left id and then by right id, where all are small; else none. A best path asks for the costs of
+    /// many right ids with one left id.
+    columns: Vec<i16>,
 }
 
 impl Model for Matrix {
-    ghost use Rattle.conn_matrix.specs.Costs.{CostTable, IsSquare};
+    ghost use Rattle.conn_matrix.specs.Columns.{IsLaidOut};
+    ghost use Rattle.conn_matrix.specs.Costs.{CostTable};
 
     ghost Value = { CostTable };
 
     ghost view = { λ m. record { size = m.size; costs = m.costs.items } };
 
-    ghost invariant = { λ m. IsSquare m.size m.costs.items };
+    ghost invariant = { λ m. IsLaidOut (record { size = m.size; costs = m.costs.items }) m.columns.items };
 }
 
 impl Matrix {
@@ -39,11 +44,16 @@ impl Matrix {
     }
 
     /// The matrix of these costs, by right id and then by left id.
-    pub fn from_rows(size: u32, costs: Vec<i32>) -> Matrix
+    pub fn from_rows(alloc: Global, size: u32, costs: Vec<i32>) -> Result<Matrix, NoMemory>
         requires { IsSquare size costs.items }
-        ensures { result ≡ record { size = size; costs = costs.items } }
+        ensures { IfOk result (λ matrix. matrix ≡ record { size = size; costs = costs.items }) }
     {
-        Matrix { size, costs }
+        let columns = columns_of(alloc, size, costs.as_slice())?;
+        Ok(Matrix {
+            size,
+            costs,
+            columns,
+        })
     }
 
     /// The number of ids.
@@ -59,7 +69,13 @@ impl Matrix {
         requires left { l < self.now.size }
         ensures { result ≡ cost_at self.now r l }
     {
-        self.costs[r as usize * self.size as usize + l as usize]
+        let (r, l, size) = (r as usize, l as usize, self.size as usize);
+        // The same way for all pairs, so that a loop over them need not ask each time.
+        if self.columns.is_empty() {
+            self.costs[r * size + l]
+        } else {
+            i32::from(self.columns[l * size + r])
+        }
     }
 
     /// All costs, by right id and then by left id.
@@ -75,17 +91,17 @@ fn read_table(alloc: Global, first: &[u8], lines: FileLines<'_>) -> Result<Matri
 {
     let size = read_size(first)?;
     let costs = read_costs(alloc, lines)?;
-    squared(size, costs)
+    squared(alloc, size, costs)
 }
 
-fn squared(size: u32, costs: Vec<i32>) -> Result<Matrix, ReadError>
+fn squared(alloc: Global, size: u32, costs: Vec<i32>) -> Result<Matrix, ReadError>
     requires { size ≤ MOST_IDS }
     ensures { Gives (λ matrix. matrix) result (squared size costs.items) }
 {
     let wanted = size as u64 * size as u64;
     let found = costs.len() as u64;
     if found == wanted {
-        Ok(Matrix { size, costs })
+        Ok(Matrix::from_rows(alloc, size, costs)?)
     } else {
         Err(FaultKind::Count { wanted, found }.into())
     }

@@ -69,12 +69,20 @@ fn reads_the_lines_of_a_file(rt: HostRuntime) {
 
 #[test]
 fn costs_go_by_right_id_first(rt: HostRuntime) -> Result<(), ReadError> {
-    let matrix = Matrix::read(rt.alloc(), b"2\n10\n11\n12\n13\n")?;
-    assert_eq!(rt; matrix.size(), 2);
-    let cases = [(0, 0, 10), (0, 1, 11), (1, 0, 12), (1, 1, 13)];
-    for (r, l, wanted) in cases {
-        if r < 2 && l < 2 {
-            assert_eq!(rt; matrix.cost(r, l), wanted, "at {r} {l}");
+    // The last cost of the second and third file is the first that does not fit in 16 bits.
+    let files: [(&[u8], i32); 4] = [
+        (b"2\n10\n11\n12\n32767\n", 32_767),
+        (b"2\n10\n11\n12\n32768\n", 32_768),
+        (b"2\n10\n11\n12\n-32769\n", -32_769),
+        (b"2\n10\n11\n12\n-32768\n", -32_768),
+    ];
+    for (bytes, last) in files {
+        let matrix = Matrix::read(rt.alloc(), bytes)?;
+        assert_eq!(rt; matrix.size(), 2);
+        for (r, l, wanted) in [(0, 0, 10), (0, 1, 11), (1, 0, 12), (1, 1, last)] {
+            if r < 2 && l < 2 {
+                assert_eq!(rt; matrix.cost(r, l), wanted, "at {r} {l} of {last}");
+            }
         }
     }
     Ok(())
@@ -84,7 +92,7 @@ fn costs_go_by_right_id_first(rt: HostRuntime) -> Result<(), ReadError> {
 fn rows_give_the_matrix_again(rt: HostRuntime) -> Result<(), NoMemory> {
     let costs = Vec::from_slice(rt.alloc(), &[3, -4, 5, 6])?;
     assert_eq!(rt; costs.len(), 4);
-    let matrix = Matrix::from_rows(2, costs);
+    let matrix = Matrix::from_rows(rt.alloc(), 2, costs)?;
     assert_eq!(rt; matrix.rows(), [3, -4, 5, 6].as_slice());
     Ok(())
 }

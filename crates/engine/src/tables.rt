@@ -59,7 +59,7 @@ fn read_matrix(alloc: Global, files: &[SetFile]) -> Result<Matrix, BuildError>
 {
     match bytes_of(files, Role::Connection) {
         Some(bytes) => located(Role::Connection, 1, Matrix::read(alloc, bytes)),
-        None => Ok(Matrix::from_rows(1, vec![in alloc; 0i32]?)),
+        None => Ok(Matrix::from_rows(alloc, 1, vec![in alloc; 0i32]?)?),
     }
 }
 
