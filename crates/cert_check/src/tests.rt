@@ -1,194 +1,8 @@
-ghost use Rattle.std.specs.Prelude.{◌≡◌, map, true, IfOk};
-ghost use Rattle.std.proofs.Props.{props};
-ghost use Rattle.mz_base.specs.Data.{AreDataSound};
-ghost use Rattle.conversion_meaning.specs.Examples.{set};
-ghost use Rattle.conversion_meaning.specs.Lattices.{IsWellFormed};
-ghost use Rattle.conversion_meaning.specs.SmallLattices.{is_well, small_entry};
-
 use crate::check;
-use mz_base::{
-    Certificate, Class, DataSet, Entry, Hit, Lattice, NoMemory, Romaji, RuleView, Seq, Source,
-    Span, Text, WordView,
-};
+use example_set::{ExampleSet, kyouha_lattice};
+use mz_base::{Certificate, NoMemory, Seq, Span};
 use std::alloc::Global;
 use std::test::Fail;
-
-const COSTS: [i32; 9] = [0, 100, 500, 100, 400, 50, 200, 100, 800];
-
-static KYOU: [char; 3] = ['き', 'ょ', 'う'];
-
-static HA: [char; 1] = ['は'];
-
-static TODAY: [char; 2] = ['今', '日'];
-
-static CAPITAL: [char; 1] = ['京'];
-
-static LEAF: [char; 1] = ['葉'];
-
-// The data set of the worked examples. No word is looked up in these tests.
-#[derive(Drop)]
-struct Small {
-    words: u32,
-    ghost sound: { AreDataSound set } by { Prim.hlevel props },
-}
-
-impl Romaji for Small {
-    ghost use Rattle.std.specs.Prelude.{[]};
-
-    ghost rules = { λ _. [] };
-
-    fn longest(&self, _text: &[char]) -> Option<RuleView<'_>> {
-        None
-    }
-
-    fn is_open(&self, _text: &[char]) -> bool {
-        false
-    }
-}
-
-impl DataSet for Small {
-    ghost use Rattle.std.specs.Prelude.{refl};
-    ghost use Rattle.conversion_meaning.specs.Examples.{set};
-
-    ghost lists = { λ _. set };
-
-    ghost sound = { λ x. x.sound };
-
-    ghost same_rules = { λ _. refl };
-
-    fn ids(&self) -> u32 {
-        3
-    }
-
-    #[tactic(auto, unfolding(mz_base::specs::Data::connection))]
-    fn conn(&self, r: u16, l: u16) -> i32 {
-        COSTS[usize::from(r) * 3 + usize::from(l)]
-    }
-
-    #[tactic(auto, unfolding(mz_base::specs::Data::joins))]
-    fn joins(&self, r: u16, l: u16) -> bool {
-        r == 1 && l == 2
-    }
-
-    #[tactic(auto, unfolding(mz_base::specs::Data::unknown_of))]
-    fn unknown(&self, class: Class) -> (u16, i32) {
-        match class {
-            Class::Hiragana => (1, 5000),
-            Class::Katakana => (1, 6000),
-            Class::Digit => (1, 6000),
-            Class::Letter => (1, 6000),
-            Class::Other => (1, 6000),
-        }
-    }
-
-    #[tactic(auto, unfolding(mz_base::specs::Data::pos_of))]
-    fn pos(&self, _name: &[char]) -> Option<(u16, i32)> {
-        None
-    }
-
-    #[tactic(auto, unfolding(mz_base::specs::Data::word_at))]
-    fn word(&self, row: u32) -> WordView<'_> {
-        match row {
-            0 => view(&KYOU, 1, 300, &TODAY),
-            1 => view(&KYOU, 1, 350, &CAPITAL),
-            2 => view(&HA, 2, 100, &HA),
-            3 => view(&HA, 1, 600, &LEAF),
-            _ => unreachable!(),
-        }
-    }
-
-    fn words_at(&self, _alloc: Global, _key: &[char], _begin: usize) -> Result<Vec<Hit>, NoMemory> {
-        Err(NoMemory)
-    }
-
-    fn words_with_prefix(&self, _alloc: Global, _prefix: &[char]) -> Result<Vec<u32>, NoMemory> {
-        Err(NoMemory)
-    }
-
-    #[tactic(auto, unfolding(mz_base::specs::Data::values_of))]
-    fn symbols(&self, _reading: &[char]) -> &[Text] {
-        &[]
-    }
-
-    #[tactic(auto, unfolding(mz_base::specs::Data::values_of))]
-    fn kanji(&self, _reading: &[char]) -> &[Text] {
-        &[]
-    }
-}
-
-fn view<'a>(reading: &'a [char], id: u16, cost: i32, value: &'a [char]) -> WordView<'a>
-    ensures { result ≡ record { reading = reading.entry; lid = id; rid = id; cost = cost; value = value.entry } }
-{
-    WordView {
-        reading,
-        lid: id,
-        rid: id,
-        cost,
-        value,
-    }
-}
-
-fn small_set() -> Small {
-    Small { words: 4 }
-}
-
-// The begin, the end, the id on both sides and the cost of an entry.
-type Row = (u16, u16, u16, i32);
-
-fn entry_of(row: &Row) -> Entry
-    ensures { result ≡ small_entry row.now }
-{
-    let (begin, end, id, cost) = *row;
-    Entry {
-        begin,
-        end,
-        lid: id,
-        rid: id,
-        cost,
-        source: Source::Char,
-    }
-}
-
-fn entries_of(alloc: Global, rows: &[Row]) -> Result<Vec<Entry>, NoMemory>
-    ensures { IfOk result (λ entries. entries.items ≡ map small_entry rows.now) }
-{
-    let entries = rows.iter().map(|row| entry_of(row)).collect(alloc)?;
-    Ok(entries)
-}
-
-fn lattice_of(
-    alloc: Global,
-    key: &[char],
-    rows: &[Row],
-    by_end: &[u32],
-) -> Result<Lattice, NoMemory>
-    requires { is_well 3 key.now (map small_entry rows.now) by_end.now ≡ true }
-    ensures well { IfOk result (IsWellFormed set) }
-    ensures key { IfOk result (λ lattice. lattice.key ≡ key.now) }
-{
-    Ok(Lattice {
-        key: Seq::from_vec(Vec::from_slice(alloc, key)?),
-        bounds: Seq::from_vec(Vec::new(alloc)),
-        entries: Seq::from_vec(entries_of(alloc, rows)?),
-        by_end: Seq::from_vec(Vec::from_slice(alloc, by_end)?),
-    })
-}
-
-const KEY: [char; 4] = ['き', 'ょ', 'う', 'は'];
-
-// き, 今日, 京, ょ, う, は (the word), 葉, は (the character).
-const KYOUHA: [Row; 8] = [
-    (0, 1, 1, 5000),
-    (0, 3, 1, 300),
-    (0, 3, 1, 350),
-    (1, 2, 1, 5000),
-    (2, 3, 1, 5000),
-    (3, 4, 2, 100),
-    (3, 4, 1, 600),
-    (3, 4, 1, 5000),
-];
-
-const BY_END: [u32; 8] = [0, 3, 1, 2, 4, 5, 6, 7];
 
 fn certificate(
     alloc: Global,
@@ -294,7 +108,7 @@ const CASES: [(u16, u16, &[u32], &[i64], i64, &str); 32] = [
 
 #[test]
 fn a_certificate_has_its_first_fault(rt: HostRuntime) -> Result<(), Fail> {
-    let set = small_set();
+    let set = ExampleSet::new();
     for (left, right, path, potentials, total, wanted) in CASES {
         let certificate = certificate(rt.alloc(), path, potentials, total)?;
         let said = verdict(rt.alloc(), &set, left, right, &certificate)?;
@@ -305,7 +119,7 @@ fn a_certificate_has_its_first_fault(rt: HostRuntime) -> Result<(), Fail> {
 
 fn verdict(
     alloc: Global,
-    set: &Small,
+    set: &ExampleSet,
     left: u16,
     right: u16,
     certificate: &Certificate,
@@ -313,7 +127,7 @@ fn verdict(
     if left >= 3 || right >= 3 {
         return Ok(String::new(alloc));
     }
-    let lattice = lattice_of(alloc, &KEY, &KYOUHA, &BY_END)?;
+    let lattice = kyouha_lattice(alloc)?;
     let span = Span {
         begin: 0,
         end: 4,

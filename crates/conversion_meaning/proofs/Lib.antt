@@ -14,3 +14,4 @@ pub mod VerdictLemmas
 pub mod Tests
 pub mod SetLemmas
 pub mod WellTests
+pub mod RangeLemmas

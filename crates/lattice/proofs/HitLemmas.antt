@@ -8,7 +8,7 @@ use Rattle.mz_base.specs.Data.{DataLists, hits_to, readings, rows_with}
 use Rattle.mz_base.specs.declared.data.Hit.{Hit}
 use Rattle.conversion_meaning.specs.Entries.{word_entries, word_entry}
 use Rattle.conversion_meaning.proofs.Lists.{Among, from_flat_map, from_map, from_range}
-use Rattle.lattice.proofs.RangeLemmas.{range_step}
+use Rattle.conversion_meaning.proofs.RangeLemmas.{range_step}
 
 -- all of the first list pass, and none of the second
 prefix_len-append : {X : Type 0} (p : X → Bool) (xs ys : List X) → ((x : X) → Among x xs → p x ≡ true) → ((y : X) → Among y ys → p y ≡ false) → prefix_len p (xs ++ ys) ≡ length xs

@@ -6,5 +6,3 @@ pub mod HitLemmas
 pub mod MadeLemmas
 pub mod PlaceLemmas
 pub mod PlacedLemmas
-pub mod RangeLemmas
-pub mod SmallSetLemmas

@@ -1,4 +1,4 @@
 pub mod Ends
+pub mod ExampleUser
 pub mod Rows
 pub mod Runs
-pub mod SmallSet

@@ -1,37 +1,13 @@
-ghost use Rattle.std.specs.Prelude.{◌≡◌, ◌≤◌, ◌++◌, length, map, IfOk, OnOk, slice_index_or, []};
-ghost use Rattle.std.proofs.Props.{props};
-ghost use Rattle.mz_base.specs.Data.{AreDataSound, readings, rows_with};
+ghost use Rattle.std.specs.Prelude.{◌≡◌, ◌≤◌, length, IfOk};
 ghost use Rattle.conversion_meaning.specs.Lattices.{IsKey, IsLatticeOf};
-ghost use Rattle.lattice.specs.SmallSet.{four_rows, kyou_row, small};
+ghost use Rattle.example_set.specs.SmallSet.{small};
+ghost use Rattle.lattice.specs.ExampleUser.{four_rows, kyou_row};
 
 use crate::{build, value_of};
-use mz_base::{
-    Class, DataSet, Hit, Lattice, MOST_KEY, NoMemory, NoUserWords, Romaji, RuleView, Text, UserRow,
-    UserWords, WordView,
-};
+use example_set::{ExampleSet, KYOU, NOUN, SUPPRESSED, TODAY};
+use mz_base::{Lattice, MOST_KEY, NoMemory, NoUserWords, Text, UserRow, UserWords};
 use std::alloc::Global;
 use std::test::Fail;
-
-const COSTS: [i32; 9] = [0, 100, 500, 100, 400, 50, 200, 100, 800];
-
-// きょう 今日, きょう 京, は は, は 葉, も 藻, も 喪.
-const WORDS: u32 = 6;
-
-static KYOU: [char; 3] = ['き', 'ょ', 'う'];
-
-static HA: [char; 1] = ['は'];
-
-static MO: [char; 1] = ['も'];
-
-static TODAY: [char; 2] = ['今', '日'];
-
-static CAPITAL: [char; 1] = ['京'];
-
-static LEAF: [char; 1] = ['葉'];
-
-static SEAWEED: [char; 1] = ['藻'];
-
-static MOURNING: [char; 1] = ['喪'];
 
 static STRONG: [char; 1] = ['強'];
 
@@ -39,168 +15,7 @@ static MAD: [char; 1] = ['狂'];
 
 static LORD: [char; 1] = ['卿'];
 
-static NOUN: [char; 2] = ['名', '詞'];
-
 static VERB: [char; 2] = ['動', '詞'];
-
-static SUPPRESSED: [char; 4] = ['抑', '制', '単', '語'];
-
-// A data set that looks at each of its words.
-#[derive(Drop)]
-struct Small {
-    words: u32,
-    ghost sound: { AreDataSound small } by { Prim.hlevel props },
-}
-
-impl Romaji for Small {
-    ghost use Rattle.std.specs.Prelude.{[]};
-
-    ghost rules = { λ _. [] };
-
-    fn longest(&self, _text: &[char]) -> Option<RuleView<'_>> {
-        None
-    }
-
-    fn is_open(&self, _text: &[char]) -> bool {
-        false
-    }
-}
-
-impl DataSet for Small {
-    ghost use Rattle.std.specs.Prelude.{refl};
-    ghost use Rattle.lattice.specs.SmallSet.{small};
-
-    ghost lists = { λ _. small };
-
-    ghost sound = { λ x. x.sound };
-
-    ghost same_rules = { λ _. refl };
-
-    fn ids(&self) -> u32 {
-        3
-    }
-
-    #[tactic(auto, unfolding(mz_base::specs::Data::connection))]
-    fn conn(&self, r: u16, l: u16) -> i32 {
-        COSTS[usize::from(r) * 3 + usize::from(l)]
-    }
-
-    #[tactic(auto, unfolding(mz_base::specs::Data::joins))]
-    fn joins(&self, r: u16, l: u16) -> bool {
-        r == 1 && l == 2
-    }
-
-    #[tactic(auto, unfolding(mz_base::specs::Data::unknown_of))]
-    fn unknown(&self, class: Class) -> (u16, i32) {
-        match class {
-            Class::Hiragana => (1, 5000),
-            Class::Katakana => (1, 6000),
-            Class::Digit => (1, 6000),
-            Class::Letter => (1, 6000),
-            Class::Other => (1, 6000),
-        }
-    }
-
-    #[tactic(auto, unfolding(mz_base::specs::Data::pos_of))]
-    fn pos(&self, name: &[char]) -> Option<(u16, i32)> {
-        if name == NOUN.as_slice() {
-            Some((1, 100))
-        } else if name == SUPPRESSED.as_slice() {
-            Some((2, 200))
-        } else {
-            None
-        }
-    }
-
-    #[tactic(auto, unfolding(mz_base::specs::Data::word_at))]
-    fn word(&self, row: u32) -> WordView<'_> {
-        match row {
-            0 => view(&KYOU, 1, 300, &TODAY),
-            1 => view(&KYOU, 1, 350, &CAPITAL),
-            2 => view(&HA, 2, 100, &HA),
-            3 => view(&HA, 1, 600, &LEAF),
-            4 => view(&MO, 1, 300, &SEAWEED),
-            5 => view(&MO, 1, 300, &MOURNING),
-            _ => unreachable!(),
-        }
-    }
-
-    fn words_at(&self, alloc: Global, key: &[char], begin: usize) -> Result<Vec<Hit>, NoMemory> {
-        let mut hits = Vec::new(alloc);
-        for end in begin + 1..key.len() + 1 {
-            push_hits(alloc, &key[begin..end], end as u16, &mut hits)?;
-        }
-        Ok(hits)
-    }
-
-    #[tactic(auto, unfolding(mz_base::specs::Data::places))]
-    fn words_with_prefix(&self, alloc: Global, prefix: &[char]) -> Result<Vec<u32>, NoMemory> {
-        let rows = (0..WORDS)
-            .filter(|row| reading(*row).starts_with(prefix))
-            .collect(alloc)?;
-        Ok(rows)
-    }
-
-    #[tactic(auto, unfolding(mz_base::specs::Data::values_of))]
-    fn symbols(&self, _reading: &[char]) -> &[Text] {
-        &[]
-    }
-
-    #[tactic(auto, unfolding(mz_base::specs::Data::values_of))]
-    fn kanji(&self, _reading: &[char]) -> &[Text] {
-        &[]
-    }
-}
-
-fn view<'a>(reading: &'a [char], id: u16, cost: i32, value: &'a [char]) -> WordView<'a>
-    ensures { result ≡ record { reading = reading.entry; lid = id; rid = id; cost = cost; value = value.entry } }
-{
-    WordView {
-        reading,
-        lid: id,
-        rid: id,
-        cost,
-        value,
-    }
-}
-
-fn reading(row: u32) -> &'static [char]
-    ensures { result.now ≡ slice_index_or (readings small) row [] }
-{
-    match row {
-        0 => &KYOU,
-        1 => &KYOU,
-        2 => &HA,
-        3 => &HA,
-        4 => &MO,
-        5 => &MO,
-        _ => &[],
-    }
-}
-
-#[tactic(auto, unfolding(mz_base::specs::Data::places))]
-fn rows_of(alloc: Global, text: &[char]) -> Result<Vec<u32>, NoMemory>
-    ensures { IfOk result (λ rows. rows.items ≡ rows_with (readings small) text.now) }
-{
-    let rows = (0..WORDS)
-        .filter(|row| reading(*row) == text)
-        .collect(alloc)?;
-    Ok(rows)
-}
-
-fn push_hits(alloc: Global, text: &[char], end: u16, out: &mut Vec<Hit>) -> Result<(), NoMemory>
-    ensures { OnOk result (out.new.items ≡ out.old.items ++ map (λ row. record { end = end; row = row }) (rows_with (readings small) text.now)) }
-{
-    let rows = rows_of(alloc, text)?;
-    for row in &rows {
-        out.push(Hit { end, row: *row })?;
-    }
-    Ok(())
-}
-
-fn small_set() -> Small {
-    Small { words: WORDS }
-}
 
 // A user with four rows of one reading: きょう 強 名詞, きょう 今日 抑制単語, きょう 狂 動詞, きょう 卿 名詞. The set
 // has no 動詞.
@@ -212,7 +27,7 @@ struct FourRows {
 
 impl UserWords for FourRows {
     ghost use Rattle.std.proofs.Common.{lit≤};
-    ghost use Rattle.lattice.specs.SmallSet.{four_rows};
+    ghost use Rattle.lattice.specs.ExampleUser.{four_rows};
 
     ghost rows = { λ _. four_rows };
 
@@ -307,7 +122,7 @@ fn gives_the_entries_of_a_users_rows(rt: HostRuntime) -> Result<(), Fail> {
 #[test]
 fn a_users_rows_have_the_ids_of_the_set(rt: HostRuntime) -> Result<(), Fail> {
     let alloc = rt.alloc();
-    let lattice = build(alloc, &small_set(), &four_rows(alloc)?, &KYOU, &[])?;
+    let lattice = build(alloc, &ExampleSet::new(), &four_rows(alloc)?, &KYOU, &[])?;
     // Begin, end, the left and the right id, and the cost.
     let mut numbers = String::new(alloc);
     for entry in lattice.entries.as_slice() {
@@ -332,14 +147,14 @@ fn values_of<U: UserWords>(
     if key.is_empty() || key.len() > MOST_KEY || usize::from(bound) > key.len() {
         return Ok(String::new(alloc));
     }
-    let set = small_set();
+    let set = ExampleSet::new();
     let lattice = lattice_of(alloc, &set, user, key.as_slice(), bound)?;
     values_in(alloc, &set, user, &lattice)
 }
 
 fn lattice_of<U: UserWords>(
     alloc: Global,
-    set: &Small,
+    set: &ExampleSet,
     user: &U,
     key: &[char],
     bound: u16,
@@ -357,7 +172,7 @@ fn lattice_of<U: UserWords>(
 
 fn values_in<U: UserWords>(
     alloc: Global,
-    set: &Small,
+    set: &ExampleSet,
     user: &U,
     lattice: &Lattice,
 ) -> Result<String, NoMemory>

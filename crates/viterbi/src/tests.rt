@@ -1,194 +1,14 @@
-ghost use Rattle.std.specs.Prelude.{◌≡◌, ◌≤◌, ◌≤ℤ◌, neg_ℤ, pos, map, true, IfOk};
-ghost use Rattle.std.proofs.Props.{props};
-ghost use Rattle.mz_base.specs.Data.{AreDataSound};
-ghost use Rattle.conversion_meaning.specs.Examples.{set};
+ghost use Rattle.std.specs.Prelude.{◌≤◌, ◌≤ℤ◌, neg_ℤ, pos, IfOk};
 ghost use Rattle.conversion_meaning.specs.Lattices.{IsWellFormed};
-ghost use Rattle.conversion_meaning.specs.Paths.{IsSpan};
-ghost use Rattle.conversion_meaning.specs.SmallLattices.{is_well, small_entry};
+ghost use Rattle.example_set.specs.SmallSet.{small};
 
 use crate::solve;
-use mz_base::{
-    Class, DataSet, Entry, Hit, Lattice, NoMemory, Romaji, RuleView, Seq, Source, Span, Text,
-    WordView,
-};
+use example_set::{ExampleSet, HA, KYOU, KYOUHA, Row, kyouha_lattice, lattice_of};
+use mz_base::{DataSet, Entry, Lattice, NoMemory, Span};
 use std::alloc::Global;
 use std::test::Fail;
 
-const COSTS: [i32; 9] = [0, 100, 500, 100, 400, 50, 200, 100, 800];
-
-static KYOU: [char; 3] = ['き', 'ょ', 'う'];
-
-static HA: [char; 1] = ['は'];
-
-static TODAY: [char; 2] = ['今', '日'];
-
-static CAPITAL: [char; 1] = ['京'];
-
-static LEAF: [char; 1] = ['葉'];
-
-// The data set of the worked examples. No word is looked up in these tests.
-#[derive(Drop)]
-struct Small {
-    words: u32,
-    ghost sound: { AreDataSound set } by { Prim.hlevel props },
-}
-
-impl Romaji for Small {
-    ghost use Rattle.std.specs.Prelude.{[]};
-
-    ghost rules = { λ _. [] };
-
-    fn longest(&self, _text: &[char]) -> Option<RuleView<'_>> {
-        None
-    }
-
-    fn is_open(&self, _text: &[char]) -> bool {
-        false
-    }
-}
-
-impl DataSet for Small {
-    ghost use Rattle.std.specs.Prelude.{refl};
-    ghost use Rattle.conversion_meaning.specs.Examples.{set};
-
-    ghost lists = { λ _. set };
-
-    ghost sound = { λ x. x.sound };
-
-    ghost same_rules = { λ _. refl };
-
-    fn ids(&self) -> u32 {
-        3
-    }
-
-    #[tactic(auto, unfolding(mz_base::specs::Data::connection))]
-    fn conn(&self, r: u16, l: u16) -> i32 {
-        COSTS[usize::from(r) * 3 + usize::from(l)]
-    }
-
-    #[tactic(auto, unfolding(mz_base::specs::Data::joins))]
-    fn joins(&self, r: u16, l: u16) -> bool {
-        r == 1 && l == 2
-    }
-
-    #[tactic(auto, unfolding(mz_base::specs::Data::unknown_of))]
-    fn unknown(&self, class: Class) -> (u16, i32) {
-        match class {
-            Class::Hiragana => (1, 5000),
-            Class::Katakana => (1, 6000),
-            Class::Digit => (1, 6000),
-            Class::Letter => (1, 6000),
-            Class::Other => (1, 6000),
-        }
-    }
-
-    #[tactic(auto, unfolding(mz_base::specs::Data::pos_of))]
-    fn pos(&self, _name: &[char]) -> Option<(u16, i32)> {
-        None
-    }
-
-    #[tactic(auto, unfolding(mz_base::specs::Data::word_at))]
-    fn word(&self, row: u32) -> WordView<'_> {
-        match row {
-            0 => view(&KYOU, 1, 300, &TODAY),
-            1 => view(&KYOU, 1, 350, &CAPITAL),
-            2 => view(&HA, 2, 100, &HA),
-            3 => view(&HA, 1, 600, &LEAF),
-            _ => unreachable!(),
-        }
-    }
-
-    fn words_at(&self, _alloc: Global, _key: &[char], _begin: usize) -> Result<Vec<Hit>, NoMemory> {
-        Err(NoMemory)
-    }
-
-    fn words_with_prefix(&self, _alloc: Global, _prefix: &[char]) -> Result<Vec<u32>, NoMemory> {
-        Err(NoMemory)
-    }
-
-    #[tactic(auto, unfolding(mz_base::specs::Data::values_of))]
-    fn symbols(&self, _reading: &[char]) -> &[Text] {
-        &[]
-    }
-
-    #[tactic(auto, unfolding(mz_base::specs::Data::values_of))]
-    fn kanji(&self, _reading: &[char]) -> &[Text] {
-        &[]
-    }
-}
-
-fn view<'a>(reading: &'a [char], id: u16, cost: i32, value: &'a [char]) -> WordView<'a>
-    ensures { result ≡ record { reading = reading.entry; lid = id; rid = id; cost = cost; value = value.entry } }
-{
-    WordView {
-        reading,
-        lid: id,
-        rid: id,
-        cost,
-        value,
-    }
-}
-
-fn small_set() -> Small {
-    Small { words: 4 }
-}
-
-// The begin, the end, the id on both sides and the cost of an entry.
-type Row = (u16, u16, u16, i32);
-
-fn entry_of(row: &Row) -> Entry
-    ensures { result ≡ small_entry row.now }
-{
-    let (begin, end, id, cost) = *row;
-    Entry {
-        begin,
-        end,
-        lid: id,
-        rid: id,
-        cost,
-        source: Source::Char,
-    }
-}
-
-fn entries_of(alloc: Global, rows: &[Row]) -> Result<Vec<Entry>, NoMemory>
-    ensures { IfOk result (λ entries. entries.items ≡ map small_entry rows.now) }
-{
-    let entries = rows.iter().map(|row| entry_of(row)).collect(alloc)?;
-    Ok(entries)
-}
-
-fn lattice_of(
-    alloc: Global,
-    key: &[char],
-    rows: &[Row],
-    by_end: &[u32],
-) -> Result<Lattice, NoMemory>
-    requires { is_well 3 key.now (map small_entry rows.now) by_end.now ≡ true }
-    ensures { IfOk result (IsWellFormed set) }
-{
-    Ok(Lattice {
-        key: Seq::from_vec(Vec::from_slice(alloc, key)?),
-        bounds: Seq::from_vec(Vec::new(alloc)),
-        entries: Seq::from_vec(entries_of(alloc, rows)?),
-        by_end: Seq::from_vec(Vec::from_slice(alloc, by_end)?),
-    })
-}
-
-const KEY: [char; 4] = ['き', 'ょ', 'う', 'は'];
-
-// き, 今日, 京, ょ, う, は (the word), 葉, は (the character).
-const KYOUHA: [Row; 8] = [
-    (0, 1, 1, 5000),
-    (0, 3, 1, 300),
-    (0, 3, 1, 350),
-    (1, 2, 1, 5000),
-    (2, 3, 1, 5000),
-    (3, 4, 2, 100),
-    (3, 4, 1, 600),
-    (3, 4, 1, 5000),
-];
-
-// The same with a bound after き.
+// The lattice of きょうは with a bound after き.
 const CUT: [Row; 6] = [
     (0, 1, 1, 5000),
     (1, 2, 1, 5000),
@@ -238,18 +58,18 @@ const MIXED: [Row; 13] = [
 ];
 
 fn lattice_at(alloc: Global, number: usize) -> Result<Lattice, NoMemory>
-    ensures { IfOk result (IsWellFormed set) }
+    ensures { IfOk result (IsWellFormed small) }
 {
     match number {
-        0 => lattice_of(alloc, &KEY, &KYOUHA, &[0, 3, 1, 2, 4, 5, 6, 7]),
-        1 => lattice_of(alloc, &KEY, &CUT, &[0, 1, 2, 3, 4, 5]),
+        0 => kyouha_lattice(alloc),
+        1 => lattice_of(alloc, &KYOUHA, &CUT, &[0, 1, 2, 3, 4, 5]),
         2 => lattice_of(alloc, &HA, &HA_ROWS, &[0, 1, 2]),
         3 => lattice_of(alloc, &HA, &MO_ROWS, &[0, 1, 2]),
         4 => lattice_of(alloc, &HA, &A_ROWS, &[0]),
         5 => lattice_of(alloc, &KYOU, &EQUAL, &[0, 1, 2, 4, 5, 3, 6, 7, 8]),
         _ => lattice_of(
             alloc,
-            &KEY,
+            &KYOUHA,
             &MIXED,
             &[0, 1, 2, 3, 4, 5, 7, 8, 6, 9, 10, 11, 12],
         ),
@@ -269,7 +89,7 @@ const WHOLE: [(usize, &str); 5] = [
 
 #[test]
 fn gives_the_path_of_a_whole_key(rt: HostRuntime) -> Result<(), Fail> {
-    let set = small_set();
+    let set = ExampleSet::new();
     for (number, wanted) in WHOLE {
         let lattice = lattice_at(rt.alloc(), number)?;
         let end = end_of(&lattice);
@@ -289,7 +109,7 @@ const INNER: [(usize, u16, u16, u16, u16, &str); 4] = [
 
 #[test]
 fn gives_the_path_of_a_span(rt: HostRuntime) -> Result<(), Fail> {
-    let set = small_set();
+    let set = ExampleSet::new();
     for (number, begin, end, left, right, wanted) in INNER {
         let lattice = lattice_at(rt.alloc(), number)?;
         let text = solved(rt.alloc(), &set, &lattice, begin, end, left, right)?;
@@ -300,7 +120,7 @@ fn gives_the_path_of_a_span(rt: HostRuntime) -> Result<(), Fail> {
 
 #[test]
 fn agrees_with_all_paths(rt: HostRuntime) -> Result<(), Fail> {
-    let set = small_set();
+    let set = ExampleSet::new();
     for number in 0..LATTICES {
         let lattice = lattice_at(rt.alloc(), number)?;
         for begin in 0..end_of(&lattice) {
@@ -326,14 +146,14 @@ fn end_of(lattice: &Lattice) -> u16
 // What `solve` gives; nothing for what is no span.
 fn solved(
     alloc: Global,
-    examples: &Small,
+    examples: &ExampleSet,
     lattice: &Lattice,
     begin: u16,
     end: u16,
     left: u16,
     right: u16,
 ) -> Result<String, NoMemory>
-    requires { IsWellFormed set lattice.now }
+    requires { IsWellFormed small lattice.now }
 {
     if begin >= end || usize::from(end) > lattice.key.as_slice().len() || left >= 3 || right >= 3 {
         return Ok(String::new(alloc));
@@ -382,7 +202,7 @@ struct Try {
 // The same by all lists of touching entries, one by one.
 fn tried(
     alloc: Global,
-    set: &Small,
+    set: &ExampleSet,
     lattice: &Lattice,
     begin: u16,
     end: u16,
@@ -414,7 +234,7 @@ fn tried(
 // Adds the lists that are longer by one entry than the one of this place.
 fn push_longer(
     alloc: Global,
-    set: &Small,
+    set: &ExampleSet,
     entries: &[Entry],
     last: u16,
     place: usize,
@@ -438,7 +258,7 @@ fn push_longer(
     Ok(())
 }
 
-fn connection(set: &Small, r: u16, l: u16) -> i64
+fn connection(set: &ExampleSet, r: u16, l: u16) -> i64
     ensures low { neg_ℤ (pos 2147483648) ≤ℤ result }
     ensures high { result ≤ℤ pos 2147483647 }
 {
@@ -464,7 +284,7 @@ fn least_to(tries: &[Try], ordinal: usize) -> i64 {
 // The least of the whole paths, and of several the one whose ordinals from the last are lower.
 fn best_to(
     alloc: Global,
-    set: &Small,
+    set: &ExampleSet,
     tries: &[Try],
     end: u16,
     right: u16,

@@ -1,7 +1,7 @@
 use Rattle.std.proofs.Common.{ap, ◌∙◌, ◌+◌, ◌++◌, ◌-◌, length}
 use Rattle.std.specs.List.{flat_map, range_with_len}
 use Rattle.conversion_meaning.specs.Entries.{entries, entries_from}
-use Rattle.lattice.proofs.RangeLemmas.{flat_map_step}
+use Rattle.conversion_meaning.proofs.RangeLemmas.{flat_map_step}
 use Rattle.lattice.proofs.entries.entries_of.Goals as goal
 
 pub loop-begin-preserved : goal.loop-begin-preserved

@@ -6,7 +6,7 @@ use Rattle.conversion_meaning.specs.Entries.{char_entries, entries_from, entries
 use Rattle.lattice.proofs.EntrySteps.{entries_in-cut, entries_in-uncut}
 use Rattle.lattice.proofs.GroupLemmas.{four_groups}
 use Rattle.lattice.proofs.HitLemmas.{first_hits, later_hits}
-use Rattle.lattice.proofs.RangeLemmas.{flat_map_step}
+use Rattle.conversion_meaning.proofs.RangeLemmas.{flat_map_step}
 use Rattle.lattice.proofs.entries.push_from.Goals as goal
 use Rattle.lattice.proofs.entries.push_from.Goals.{then-not-is_cut+in_ok-push_rows+in_ok-push_text, else-not-is_cut}
 

@@ -11,7 +11,7 @@ use Rattle.mz_base.specs.declared.data.Class.TheVariants.{Hiragana, Katakana, Di
 use Rattle.mz_base.specs.declared.data.PosRow.{PosRow}
 use Rattle.mz_base.specs.declared.data.WordRow.{WordRow}
 use Rattle.mz_base.proofs.LimitLemmas.{IsCost-from_test}
-use Rattle.lattice.specs.SmallSet.{noun, small, suppressed_part}
+use Rattle.example_set.specs.SmallSet.{noun, small, suppressed_part}
 
 both : (a b : Bool) → (a && b) ≡ true → (a ≡ true) × (b ≡ true)
 both true b h = (refl, h)

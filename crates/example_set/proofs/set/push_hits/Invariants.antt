@@ -1,6 +1,6 @@
 use Rattle.std.proofs.Common.{◌≡◌, ℕ, ◌++◌, drop, map}
 use Rattle.mz_base.specs.declared.data.Hit.{Hit}
-use Rattle.lattice.proofs.tests.push_hits.Given as goal
+use Rattle.example_set.proofs.set.push_hits.Given as goal
 
 abbrev pub invariant-loop-row : goal.invariant-loop-row
 invariant-loop-row l =

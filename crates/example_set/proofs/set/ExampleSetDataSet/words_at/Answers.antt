@@ -1,18 +1,18 @@
 use Rattle.std.proofs.Common.{rules, ap, ◌∙◌, ◌≡◌, ◌+◌, ◌++◌, ◌-◌, length, arith}
 use Rattle.std.specs.List.{flat_map, range_with_len}
 use Rattle.mz_base.specs.Data.{hits_at, hits_to, readings}
-use Rattle.lattice.specs.SmallSet.{small}
-use Rattle.lattice.proofs.HitLemmas.{hits_from}
-use Rattle.lattice.proofs.RangeLemmas.{flat_map_step}
-use Rattle.lattice.proofs.tests.SmallDataSet.words_at.Goals as goal
+use Rattle.conversion_meaning.proofs.RangeLemmas.{flat_map_step}
+use Rattle.example_set.specs.SmallSet.{small}
+use Rattle.example_set.proofs.set.ExampleSetDataSet.words_at.Goals as goal
 
 pub loop-end-init : goal.loop-end-init
 unfolding hits_at
 loop-end-init c =
     let key = c.args.key.now in
     let begin = c.args.begin in
+    let to = hits_to (readings small) key begin in
     let count : length key + 1 - (begin + 1) ≡ length key - begin = omega arith in
-    ap (λ hits. hits ++ hits_from (readings small) key begin (begin + 1) (length key + 1)) c.new-hits.ensures.items ∙ ap (λ n. flat_map (hits_to (readings small) key begin) (range_with_len (begin + 1) n)) count
+    ap (λ hits. hits ++ flat_map to (range_with_len (begin + 1) (length key + 1 - (begin + 1)))) c.new-hits.ensures.items ∙ ap (λ n. flat_map to (range_with_len (begin + 1) n)) count
 
 pub loop-end-preserved : goal.loop-end-preserved
 loop-end-preserved c =
@@ -21,4 +21,4 @@ loop-end-preserved c =
     let at = c.loop-end in
     let to = hits_to (readings small) key begin in
     let grown : c.push_hits.new.out.items ≡ at.hits.items ++ to at.end = search rules in
-    ap (λ xs. xs ++ hits_from (readings small) key begin (at.end + 1) (length key + 1)) grown ∙ flat_map_step to at.hits.items (hits_at (readings small) key begin) at.end (length key + 1) c.loop-end-test.true at.invariant
+    ap (λ xs. xs ++ flat_map to (range_with_len (at.end + 1) (length key + 1 - (at.end + 1)))) grown ∙ flat_map_step to at.hits.items (hits_at (readings small) key begin) at.end (length key + 1) c.loop-end-test.true at.invariant

@@ -1,5 +1,0 @@
-use Rattle.conversion_meaning.proofs.SetLemmas.{AreDataSound-set}
-use Rattle.cert_check.proofs.tests.small_set.Goals as goal
-
-pub invariant_of-result : goal.invariant_of-result
-invariant_of-result c = record { sound = AreDataSound-set }

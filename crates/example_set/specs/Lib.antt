@@ -1,0 +1,2 @@
+pub mod HandMade
+pub mod SmallSet
