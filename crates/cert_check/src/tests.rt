@@ -108,10 +108,9 @@ const CASES: [(u16, u16, &[u32], &[i64], i64, &str); 32] = [
 
 #[test]
 fn a_certificate_has_its_first_fault(rt: HostRuntime) -> Result<(), Fail> {
-    let set = ExampleSet::new();
     for (left, right, path, potentials, total, wanted) in CASES {
         let certificate = certificate(rt.alloc(), path, potentials, total)?;
-        let said = verdict(rt.alloc(), &set, left, right, &certificate)?;
+        let said = verdict(rt.alloc(), left, right, &certificate)?;
         assert_eq!(rt; said.as_str(), wanted, "at {left} {right} {total}");
     }
     Ok(())
@@ -119,7 +118,6 @@ fn a_certificate_has_its_first_fault(rt: HostRuntime) -> Result<(), Fail> {
 
 fn verdict(
     alloc: Global,
-    set: &ExampleSet,
     left: u16,
     right: u16,
     certificate: &Certificate,
@@ -134,7 +132,7 @@ fn verdict(
         left,
         right,
     };
-    match check(set, &lattice, &span, certificate) {
+    match check(&ExampleSet, &lattice, &span, certificate) {
         Ok(()) => Ok(format!(in alloc; "ok")?),
         Err(fault) => Ok(format!(in alloc; "{fault}")?),
     }

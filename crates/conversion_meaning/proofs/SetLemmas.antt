@@ -1,15 +1,17 @@
 -- The data set of the examples is within its limits.
-use Rattle.std.proofs.Common.{◌≡◌, refl, ℕ, zero, suc, ◌*◌, ◌+◌, ◌<◌, ℤ, pos, Bool, true, false, ◌&&◌, List, [], ◌∷◌, length, get_or, arith, lit<, lit≤}
-use Rattle.std.specs.Prelude.{nat_lt}
+use Rattle.std.proofs.Common.{◌≡◌, refl, ℕ, zero, suc, ◌+◌, ◌*◌, ◌<◌, ℤ, pos, Bool, true, false, cond, ◌&&◌, List, [], ◌∷◌, length, get_or, arith, rules, lit<, lit≤}
+use Rattle.std.specs.Prelude.{IfSome, Some, None, nat_lt}
 use Rattle.std.specs.List.{list_all}
+use Rattle.std.specs.Option.{option_map}
 use Rattle.std.proofs.lemmas.Bool.Decides.{nat_tests}
-use Rattle.mz_base.specs.Data.{AreDataSound, IsCost, IsNode, IsWordSound, connection, pos_of, unknown_of, word_at}
+use Rattle.mz_base.specs.Data.{AreDataSound, IsCost, IsNode, IsWordSound, connection, is_text, pos_of, unknown_of, word_at}
 use Rattle.mz_base.specs.Limits.{is_cost}
 use Rattle.mz_base.specs.declared.data.Class.{Class}
 use Rattle.mz_base.specs.declared.data.Class.TheVariants.{Hiragana, Katakana, Digit, Letter, Other}
+use Rattle.mz_base.specs.declared.data.PosRow.{PosRow}
 use Rattle.mz_base.specs.declared.data.WordRow.{WordRow}
 use Rattle.mz_base.proofs.LimitLemmas.{IsCost-from_test}
-use Rattle.conversion_meaning.specs.Examples.{set}
+use Rattle.conversion_meaning.specs.Examples.{noun, set, suppressed_part}
 
 both : (a b : Bool) → (a && b) ≡ true → (a ≡ true) × (b ≡ true)
 both true b h = (refl, h)
@@ -24,7 +26,8 @@ passes_at p d (x ∷ xs) (suc i) all default =
 
 costs_small : (r l : ℕ) → IsCost (connection set r l)
 unfolding connection
-costs_small r l = IsCost-from_test _ (passes_at is_cost (pos 0) set.costs (r * set.ids + l) refl refl)
+costs_small r l =
+    IsCost-from_test _ (passes_at is_cost (pos 0) set.costs (r * set.ids + l) refl refl)
 
 node_small : (id : ℕ) (cost : ℤ) → id < 3 → is_cost cost ≡ true → IsNode 3 (id, cost)
 node_small id cost below is = record { id = below; cost = IsCost-from_test cost is }
@@ -37,6 +40,15 @@ classes_small Digit = node_small 1 (pos 6000) (lit< tt) refl
 classes_small Letter = node_small 1 (pos 6000) (lit< tt) refl
 classes_small Other = node_small 1 (pos 6000) (lit< tt) refl
 
+parts_small : (name : List ℕ) → IfSome (pos_of set name) (IsNode 3)
+unfolding pos_of
+parts_small name = by_tests (is_text name noun.name) (is_text name suppressed_part.name)
+  where
+    by_tests : (a b : Bool) → IfSome (option_map (λ (row : PosRow). (row.id, row.cost)) (cond a (Some noun) (cond b (Some suppressed_part) None))) (IsNode 3)
+    by_tests true b = node_small 1 (pos 100) (lit< tt) refl
+    by_tests false true = node_small 2 (pos 200) (lit< tt) refl
+    by_tests false false = search rules
+
 -- a row's limits as a test
 abbrev is_word : WordRow → Bool
 is_word row =
@@ -48,21 +60,28 @@ IsWordSound-from_test row is =
     let texts = both (nat_lt 0 (length row.reading)) _ a.0 in
     let b = both (nat_lt row.lid 3 && nat_lt row.rid 3) (is_cost row.cost) a.1 in
     let ids = both (nat_lt row.lid 3) _ b.0 in
-    record { read = below 0 _ texts.0; left = below row.lid 3 ids.0; right = below row.rid 3 ids.1; cost = IsCost-from_test row.cost b.1; valued = below 0 _ texts.1 }
+    record {
+      read = below 0 _ texts.0;
+      left = below row.lid 3 ids.0;
+      right = below row.rid 3 ids.1;
+      cost = IsCost-from_test row.cost b.1;
+      valued = below 0 _ texts.1;
+    }
   where
     below : (a b : ℕ) → nat_lt a b ≡ true → a < b
     below a b is = grind (arith, nat_tests)
 
-words_small : (i : ℕ) → i < 4 → IsWordSound 3 (word_at set i)
+words_small : (i : ℕ) → i < 6 → IsWordSound 3 (word_at set i)
 unfolding word_at
 words_small zero inside = IsWordSound-from_test (word_at set 0) refl
 words_small (suc zero) inside = IsWordSound-from_test (word_at set 1) refl
 words_small (suc (suc zero)) inside = IsWordSound-from_test (word_at set 2) refl
 words_small (suc (suc (suc zero))) inside = IsWordSound-from_test (word_at set 3) refl
-words_small (suc (suc (suc (suc i)))) inside = absurd (omega arith)
+words_small (suc (suc (suc (suc zero)))) inside = IsWordSound-from_test (word_at set 4) refl
+words_small (suc (suc (suc (suc (suc zero))))) inside = IsWordSound-from_test (word_at set 5) refl
+words_small (suc (suc (suc (suc (suc (suc i)))))) inside = absurd (omega arith)
 
 pub AreDataSound-set : AreDataSound set
-unfolding pos_of
 AreDataSound-set =
     record {
       some_ids = lit< tt;
@@ -70,7 +89,7 @@ AreDataSound-set =
       few_words = lit≤ tt;
       connections = λ r l right left. costs_small r l;
       classes = classes_small;
-      parts = λ name. tt;
+      parts = parts_small;
       words = words_small;
-      rules_sound = record { each = tt; distinct = tt };
+      rules_sound = record { each = tt; distinct = search rules };
     }

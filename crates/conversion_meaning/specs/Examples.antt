@@ -1,8 +1,9 @@
 -- Worked examples: a small data set, and what its definitions give for some keys.
-use Rattle.std.specs.Prelude.{◌≡◌, ℕ, ℤ, pos, List, [], ◌∷◌, ◌++◌, Some, None, length}
+use Rattle.std.specs.Prelude.{◌≡◌, ℕ, ℤ, pos, List, [], ◌∷◌, Some, None, length}
 use Rattle.mz_base.specs.Data.{DataLists}
-use Rattle.mz_base.specs.declared.data.WordRow.{WordRow}
+use Rattle.mz_base.specs.declared.data.PosRow.{PosRow}
 use Rattle.mz_base.specs.declared.data.UnknownRow.{UnknownRow}
+use Rattle.mz_base.specs.declared.data.WordRow.{WordRow}
 use Rattle.mz_base.specs.declared.lattice.Entry.{Entry}
 use Rattle.mz_base.specs.declared.lattice.Source.{Source}
 use Rattle.mz_base.specs.declared.status.CertFault.TheVariants as fault
@@ -10,7 +11,7 @@ use Rattle.mz_base.specs.declared.lattice.Source.TheVariants.{Word, Char, Run}
 use Rattle.mz_base.specs.declared.lattice.Span.{Span}
 use Rattle.conversion_meaning.specs.Best.{IsBest}
 use Rattle.conversion_meaning.specs.Certificates.{Claim, IsCertificate}
-use Rattle.conversion_meaning.specs.Entries.{entries}
+use Rattle.conversion_meaning.specs.Entries.{entries, suppressed}
 use Rattle.conversion_meaning.specs.Verdicts.{IsFault}
 
 abbrev pub word_row : List ℕ → ℕ → ℕ → ℕ → List ℕ → WordRow
@@ -20,32 +21,33 @@ word_row reading lid rid cost value =
 abbrev pub unknown_row : ℕ → ℕ → UnknownRow
 unknown_row id cost = record { id = id; cost = pos cost }
 
--- きょう 今日 300, きょう 京 350, は は 100, は 葉 600
+-- きょう 今日 300, きょう 京 350, は は 100, は 葉 600, も 藻 300, も 喪 300
 abbrev pub words_of_set : List WordRow
 words_of_set =
-    word_row (0x304d ∷ 0x3087 ∷ 0x3046 ∷ []) 1 1 300 (0x4eca ∷ 0x65e5 ∷ []) ∷ word_row (0x304d ∷ 0x3087 ∷ 0x3046 ∷ []) 1 1 350 (0x4eac ∷ []) ∷ word_row (0x306f ∷ []) 2 2 100 (0x306f ∷ []) ∷ word_row (0x306f ∷ []) 1 1 600 (0x8449 ∷ []) ∷ []
+    word_row (0x304d ∷ 0x3087 ∷ 0x3046 ∷ []) 1 1 300 (0x4eca ∷ 0x65e5 ∷ []) ∷ word_row (0x304d ∷ 0x3087 ∷ 0x3046 ∷ []) 1 1 350 (0x4eac ∷ []) ∷ word_row (0x306f ∷ []) 2 2 100 (0x306f ∷ []) ∷ word_row (0x306f ∷ []) 1 1 600 (0x8449 ∷ []) ∷ word_row (0x3082 ∷ []) 1 1 300 (0x85fb ∷ []) ∷ word_row (0x3082 ∷ []) 1 1 300 (0x55aa ∷ []) ∷ []
 
--- も 藻 300, も 喪 300
-abbrev pub seaweed_and_mourning : List WordRow
-seaweed_and_mourning = word_row (0x3082 ∷ []) 1 1 300 (0x85fb ∷ []) ∷ word_row (0x3082 ∷ []) 1 1 300 (0x55aa ∷ []) ∷ []
+-- 名詞 1 100
+abbrev pub noun : PosRow
+noun = record { name = 0x540d ∷ 0x8a5e ∷ []; id = 1; cost = pos 100 }
 
--- three ids, and these words
-abbrev pub set_with : List WordRow → DataLists
-set_with words =
+-- 抑制単語 2 200
+abbrev pub suppressed_part : PosRow
+suppressed_part = record { name = suppressed; id = 2; cost = pos 200 }
+
+-- three ids, these words, and these parts of speech
+abbrev pub set : DataLists
+set =
     record {
       ids = 3;
       costs = pos 0 ∷ pos 100 ∷ pos 500 ∷ pos 100 ∷ pos 400 ∷ pos 50 ∷ pos 200 ∷ pos 100 ∷ pos 800 ∷ [];
       unknown = unknown_row 1 5000 ∷ unknown_row 1 6000 ∷ unknown_row 1 6000 ∷ unknown_row 1 6000 ∷ unknown_row 1 6000 ∷ [];
       joins = record { first_right = 1; last_right = 1; first_left = 2; last_left = 2 } ∷ [];
-      pos = [];
+      pos = noun ∷ suppressed_part ∷ [];
       rules = [];
-      words = words;
+      words = words_of_set;
       symbols = [];
       kanji = [];
     }
-
-abbrev pub set : DataLists
-set = set_with words_of_set
 
 -- きょうは
 abbrev pub kyouha : List ℕ
@@ -105,7 +107,7 @@ KyouhaCut =
 -- of two words of one cost the one of the lower row is first
 abbrev pub Mo : Type 0
 Mo =
-    Worked (set_with (words_of_set ++ seaweed_and_mourning)) mo [] mo_entries (0 ∷ []) (pos 400 ∷ pos 400 ∷ pos 5100 ∷ []) (pos 500)
+    Worked set mo [] mo_entries (0 ∷ []) (pos 400 ∷ pos 400 ∷ pos 5100 ∷ []) (pos 500)
 
 -- digits are a run
 abbrev pub Digits : Type 0

@@ -1,2 +1,1 @@
 pub mod HandMade
-pub mod SmallSet

@@ -1,9 +1,8 @@
 ghost use Rattle.std.specs.Prelude.{◌≡◌, map, true, IfOk};
-ghost use Rattle.conversion_meaning.specs.Examples.{kyouha};
+ghost use Rattle.conversion_meaning.specs.Examples.{kyouha, set};
 ghost use Rattle.conversion_meaning.specs.Lattices.{IsWellFormed};
 ghost use Rattle.conversion_meaning.specs.SmallLattices.{is_well, small_entry, small_lattice};
 ghost use Rattle.example_set.specs.HandMade.{kyouha_characters};
-ghost use Rattle.example_set.specs.SmallSet.{small};
 
 use mz_base::{Entry, Lattice, NoMemory, Seq, Source};
 use std::alloc::Global;
@@ -30,7 +29,7 @@ const KYOUHA_ROWS: [Row; 8] = [
 pub fn kyouha_lattice(alloc: Global) -> Result<Lattice, NoMemory>
     ensures key { IfOk result (λ lattice. lattice.key ≡ kyouha) }
     ensures entries { IfOk result (λ lattice. lattice.entries ≡ kyouha_characters) }
-    ensures well_formed { IfOk result (IsWellFormed small) }
+    ensures well_formed { IfOk result (IsWellFormed set) }
 {
     lattice_of(alloc, &KYOUHA, &KYOUHA_ROWS, &[0, 3, 1, 2, 4, 5, 6, 7])
 }
@@ -44,7 +43,7 @@ pub fn lattice_of(
 ) -> Result<Lattice, NoMemory>
     requires { is_well 3 key.now (map small_entry rows.now) by_end.now ≡ true }
     ensures made { IfOk result (λ lattice. lattice ≡ small_lattice key.now rows.now by_end.now) }
-    ensures well_formed { IfOk result (IsWellFormed small) }
+    ensures well_formed { IfOk result (IsWellFormed set) }
 {
     Ok(Lattice {
         key: Seq::from_vec(Vec::from_slice(alloc, key)?),

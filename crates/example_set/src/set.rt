@@ -1,7 +1,6 @@
 ghost use Rattle.std.specs.Prelude.{◌≡◌, ◌++◌, map, IfOk, OnOk, slice_index_or, []};
-ghost use Rattle.std.proofs.Props.{props};
-ghost use Rattle.mz_base.specs.Data.{AreDataSound, readings, rows_with};
-ghost use Rattle.example_set.specs.SmallSet.{small};
+ghost use Rattle.mz_base.specs.Data.{readings, rows_with};
+ghost use Rattle.conversion_meaning.specs.Examples.{set};
 
 use mz_base::{Class, DataSet, Hit, NoMemory, Romaji, RuleView, Text, WordView};
 use std::alloc::Global;
@@ -38,15 +37,7 @@ const WORDS: u32 = 6;
 
 /// The data set of the worked examples. It has no romaji rules, and its look-ups go over all words.
 #[derive(Drop)]
-pub struct ExampleSet {
-    ghost sound: { AreDataSound small } by { Prim.hlevel props },
-}
-
-impl ExampleSet {
-    pub fn new() -> ExampleSet {
-        ExampleSet {}
-    }
-}
+pub struct ExampleSet;
 
 impl Romaji for ExampleSet {
     ghost use Rattle.std.specs.Prelude.{[]};
@@ -64,11 +55,12 @@ impl Romaji for ExampleSet {
 
 impl DataSet for ExampleSet {
     ghost use Rattle.std.specs.Prelude.{refl};
-    ghost use Rattle.example_set.specs.SmallSet.{small};
+    ghost use Rattle.conversion_meaning.specs.Examples.{set};
+    ghost use Rattle.conversion_meaning.proofs.SetLemmas.{AreDataSound-set};
 
-    ghost lists = { λ _. small };
+    ghost lists = { λ _. set };
 
-    ghost sound = { λ x. x.sound };
+    ghost sound = { λ _. AreDataSound-set };
 
     ghost same_rules = { λ _. refl };
 
@@ -161,7 +153,7 @@ fn view<'a>(reading: &'a [char], id: u16, cost: i32, value: &'a [char]) -> WordV
 }
 
 fn reading(row: u32) -> &'static [char]
-    ensures { result.now ≡ slice_index_or (readings small) row [] }
+    ensures { result.now ≡ slice_index_or (readings set) row [] }
 {
     match row {
         0 => &KYOU,
@@ -175,7 +167,7 @@ fn reading(row: u32) -> &'static [char]
 }
 
 fn push_hits(alloc: Global, text: &[char], end: u16, out: &mut Vec<Hit>) -> Result<(), NoMemory>
-    ensures { OnOk result (out.new.items ≡ out.old.items ++ map (λ row. record { end = end; row = row }) (rows_with (readings small) text.now)) }
+    ensures { OnOk result (out.new.items ≡ out.old.items ++ map (λ row. record { end = end; row = row }) (rows_with (readings set) text.now)) }
 {
     let rows = rows_of(alloc, text)?;
     for row in &rows {
@@ -186,7 +178,7 @@ fn push_hits(alloc: Global, text: &[char], end: u16, out: &mut Vec<Hit>) -> Resu
 
 #[tactic(auto, unfolding(mz_base::specs::Data::places))]
 fn rows_of(alloc: Global, text: &[char]) -> Result<Vec<u32>, NoMemory>
-    ensures { IfOk result (λ rows. rows.items ≡ rows_with (readings small) text.now) }
+    ensures { IfOk result (λ rows. rows.items ≡ rows_with (readings set) text.now) }
 {
     let rows = (0..WORDS)
         .filter(|row| reading(*row) == text)

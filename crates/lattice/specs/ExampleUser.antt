@@ -2,7 +2,7 @@
 use Rattle.std.specs.Prelude.{ℕ, List, [], ◌∷◌}
 use Rattle.mz_base.specs.declared.user.UserRow.{UserRow}
 use Rattle.conversion_meaning.specs.Entries.{suppressed}
-use Rattle.example_set.specs.SmallSet.{noun}
+use Rattle.conversion_meaning.specs.Examples.{noun}
 
 -- a user's row for きょう
 abbrev pub kyou_row : List ℕ → List ℕ → ℕ → UserRow

@@ -1,6 +1,6 @@
 ghost use Rattle.std.specs.Prelude.{◌≡◌, ◌≤◌, length, IfOk};
 ghost use Rattle.conversion_meaning.specs.Lattices.{IsKey, IsLatticeOf};
-ghost use Rattle.example_set.specs.SmallSet.{small};
+ghost use Rattle.conversion_meaning.specs.Examples.{set};
 ghost use Rattle.lattice.specs.ExampleUser.{four_rows, kyou_row};
 
 use crate::{build, value_of};
@@ -122,7 +122,7 @@ fn gives_the_entries_of_a_users_rows(rt: HostRuntime) -> Result<(), Fail> {
 #[test]
 fn a_users_rows_have_the_ids_of_the_set(rt: HostRuntime) -> Result<(), Fail> {
     let alloc = rt.alloc();
-    let lattice = build(alloc, &ExampleSet::new(), &four_rows(alloc)?, &KYOU, &[])?;
+    let lattice = build(alloc, &ExampleSet, &four_rows(alloc)?, &KYOU, &[])?;
     // Begin, end, the left and the right id, and the cost.
     let mut numbers = String::new(alloc);
     for entry in lattice.entries.as_slice() {
@@ -147,40 +147,33 @@ fn values_of<U: UserWords>(
     if key.is_empty() || key.len() > MOST_KEY || usize::from(bound) > key.len() {
         return Ok(String::new(alloc));
     }
-    let set = ExampleSet::new();
-    let lattice = lattice_of(alloc, &set, user, key.as_slice(), bound)?;
-    values_in(alloc, &set, user, &lattice)
+    let lattice = lattice_of(alloc, user, key.as_slice(), bound)?;
+    values_in(alloc, user, &lattice)
 }
 
 fn lattice_of<U: UserWords>(
     alloc: Global,
-    set: &ExampleSet,
     user: &U,
     key: &[char],
     bound: u16,
 ) -> Result<Lattice, NoMemory>
     requires key { IsKey key.now }
     requires bound { bound ≤ length key.now }
-    ensures { IfOk result (IsLatticeOf small (U.rows user.now)) }
+    ensures { IfOk result (IsLatticeOf set (U.rows user.now)) }
 {
     if bound == 0 {
-        build(alloc, set, user, key, &[])
+        build(alloc, &ExampleSet, user, key, &[])
     } else {
-        build(alloc, set, user, key, &[bound])
+        build(alloc, &ExampleSet, user, key, &[bound])
     }
 }
 
-fn values_in<U: UserWords>(
-    alloc: Global,
-    set: &ExampleSet,
-    user: &U,
-    lattice: &Lattice,
-) -> Result<String, NoMemory>
-    requires { IsLatticeOf small (U.rows user.now) lattice.now }
+fn values_in<U: UserWords>(alloc: Global, user: &U, lattice: &Lattice) -> Result<String, NoMemory>
+    requires { IsLatticeOf set (U.rows user.now) lattice.now }
 {
     let mut values = String::new(alloc);
     for ordinal in 0..lattice.entries.as_slice().len().min(100) as u32 {
-        for letter in value_of(lattice, set, user, ordinal) {
+        for letter in value_of(lattice, &ExampleSet, user, ordinal) {
             values.push(*letter)?;
         }
         values.push(' ')?;

@@ -1,6 +1,6 @@
 ghost use Rattle.std.specs.Prelude.{◌≤◌, ◌≤ℤ◌, neg_ℤ, pos, IfOk};
 ghost use Rattle.conversion_meaning.specs.Lattices.{IsWellFormed};
-ghost use Rattle.example_set.specs.SmallSet.{small};
+ghost use Rattle.conversion_meaning.specs.Examples.{set};
 
 use crate::solve;
 use example_set::{ExampleSet, HA, KYOU, KYOUHA, Row, kyouha_lattice, lattice_of};
@@ -58,7 +58,7 @@ const MIXED: [Row; 13] = [
 ];
 
 fn lattice_at(alloc: Global, number: usize) -> Result<Lattice, NoMemory>
-    ensures { IfOk result (IsWellFormed small) }
+    ensures { IfOk result (IsWellFormed set) }
 {
     match number {
         0 => kyouha_lattice(alloc),
@@ -89,11 +89,10 @@ const WHOLE: [(usize, &str); 5] = [
 
 #[test]
 fn gives_the_path_of_a_whole_key(rt: HostRuntime) -> Result<(), Fail> {
-    let set = ExampleSet::new();
     for (number, wanted) in WHOLE {
         let lattice = lattice_at(rt.alloc(), number)?;
         let end = end_of(&lattice);
-        let text = solved(rt.alloc(), &set, &lattice, 0, end, 0, 0)?;
+        let text = solved(rt.alloc(), &lattice, 0, end, 0, 0)?;
         assert_eq!(rt; text.as_str(), wanted, "at {number}");
     }
     Ok(())
@@ -109,10 +108,9 @@ const INNER: [(usize, u16, u16, u16, u16, &str); 4] = [
 
 #[test]
 fn gives_the_path_of_a_span(rt: HostRuntime) -> Result<(), Fail> {
-    let set = ExampleSet::new();
     for (number, begin, end, left, right, wanted) in INNER {
         let lattice = lattice_at(rt.alloc(), number)?;
-        let text = solved(rt.alloc(), &set, &lattice, begin, end, left, right)?;
+        let text = solved(rt.alloc(), &lattice, begin, end, left, right)?;
         assert_eq!(rt; text.as_str(), wanted, "at {number} {begin} {end}");
     }
     Ok(())
@@ -120,14 +118,13 @@ fn gives_the_path_of_a_span(rt: HostRuntime) -> Result<(), Fail> {
 
 #[test]
 fn agrees_with_all_paths(rt: HostRuntime) -> Result<(), Fail> {
-    let set = ExampleSet::new();
     for number in 0..LATTICES {
         let lattice = lattice_at(rt.alloc(), number)?;
         for begin in 0..end_of(&lattice) {
             for end in begin + 1..end_of(&lattice) + 1 {
                 for (left, right) in [(0, 0), (0, 2), (1, 0), (1, 1), (2, 1), (2, 2)] {
-                    let text = solved(rt.alloc(), &set, &lattice, begin, end, left, right)?;
-                    let wanted = tried(rt.alloc(), &set, &lattice, begin, end, left, right)?;
+                    let text = solved(rt.alloc(), &lattice, begin, end, left, right)?;
+                    let wanted = tried(rt.alloc(), &lattice, begin, end, left, right)?;
                     assert_eq!(rt; text.as_str(), wanted.as_str(), "at {number} {begin} {end}");
                 }
             }
@@ -146,14 +143,13 @@ fn end_of(lattice: &Lattice) -> u16
 // What `solve` gives; nothing for what is no span.
 fn solved(
     alloc: Global,
-    examples: &ExampleSet,
     lattice: &Lattice,
     begin: u16,
     end: u16,
     left: u16,
     right: u16,
 ) -> Result<String, NoMemory>
-    requires { IsWellFormed small lattice.now }
+    requires { IsWellFormed set lattice.now }
 {
     if begin >= end || usize::from(end) > lattice.key.as_slice().len() || left >= 3 || right >= 3 {
         return Ok(String::new(alloc));
@@ -164,7 +160,7 @@ fn solved(
         left,
         right,
     };
-    let certificate = solve(alloc, examples, lattice, &span)?;
+    let certificate = solve(alloc, &ExampleSet, lattice, &span)?;
     text_of(
         alloc,
         certificate.path.as_slice(),
@@ -202,7 +198,6 @@ struct Try {
 // The same by all lists of touching entries, one by one.
 fn tried(
     alloc: Global,
-    set: &ExampleSet,
     lattice: &Lattice,
     begin: u16,
     end: u16,
@@ -218,7 +213,7 @@ fn tried(
         cost: 0,
     })?;
     for place in 0..1000 {
-        push_longer(alloc, set, entries, end, place, &mut tries)?;
+        push_longer(alloc, entries, end, place, &mut tries)?;
     }
     let tries = tries.as_slice();
     let mut potentials = Vec::new(alloc);
@@ -227,14 +222,13 @@ fn tried(
             potentials.push(least_to(tries, ordinal))?;
         }
     }
-    let (path, total) = best_to(alloc, set, tries, end, right)?;
+    let (path, total) = best_to(alloc, tries, end, right)?;
     text_of(alloc, path.as_slice(), total, potentials.as_slice())
 }
 
 // Adds the lists that are longer by one entry than the one of this place.
 fn push_longer(
     alloc: Global,
-    set: &ExampleSet,
     entries: &[Entry],
     last: u16,
     place: usize,
@@ -245,7 +239,7 @@ fn push_longer(
         if place < tries.len() && tries[place].end == entry.begin && entry.end <= last {
             let mut ordinals = Vec::from_slice(alloc, tries[place].ordinals.as_slice())?;
             ordinals.push(ordinal)?;
-            let step = connection(set, tries[place].rid, entry.lid) + i64::from(entry.cost);
+            let step = connection(tries[place].rid, entry.lid) + i64::from(entry.cost);
             let cost = tries[place].cost.wrapping_add(step);
             tries.push(Try {
                 ordinals,
@@ -258,12 +252,12 @@ fn push_longer(
     Ok(())
 }
 
-fn connection(set: &ExampleSet, r: u16, l: u16) -> i64
+fn connection(r: u16, l: u16) -> i64
     ensures low { neg_ℤ (pos 2147483648) ≤ℤ result }
     ensures high { result ≤ℤ pos 2147483647 }
 {
     if r < 3 && l < 3 {
-        i64::from(set.conn(r, l))
+        i64::from(ExampleSet.conn(r, l))
     } else {
         0
     }
@@ -284,7 +278,6 @@ fn least_to(tries: &[Try], ordinal: usize) -> i64 {
 // The least of the whole paths, and of several the one whose ordinals from the last are lower.
 fn best_to(
     alloc: Global,
-    set: &ExampleSet,
     tries: &[Try],
     end: u16,
     right: u16,
@@ -292,7 +285,7 @@ fn best_to(
     let mut total = i64::MAX;
     let mut best: &[u32] = &[];
     for other in tries {
-        let cost = other.cost.wrapping_add(connection(set, other.rid, right));
+        let cost = other.cost.wrapping_add(connection(other.rid, right));
         let path = other.ordinals.as_slice();
         if other.end == end && (cost < total || cost == total && is_lower(path, best)) {
             total = cost;
