@@ -1,5 +1,5 @@
 -- What the tests of a small lattice say.
-use Rattle.std.proofs.Common.{◌≡◌, refl, sym, ap, ◌∙◌, subst, ℕ, suc, ◌+◌, ◌<◌, ◌≤◌, Bool, true, false, not, ◌&&◌, ◌||◌, eqb, ltb, ◌⊎◌, inl, inr, List, [], ◌∷◌, length, get_or, arith}
+use Rattle.std.proofs.Common.{◌≡◌, refl, sym, subst, ℕ, suc, ◌+◌, ◌<◌, ◌≤◌, Bool, true, false, not, ◌&&◌, ◌||◌, eqb, List, [], ◌∷◌, length, get_or, arith}
 use Rattle.std.specs.List.{Contains, list_all, list_any, range_with_len}
 use Rattle.std.specs.Prelude.{nat_le, nat_lt}
 use Rattle.std.proofs.lemmas.Bool.Decides.{nat_tests}
@@ -12,7 +12,7 @@ use Rattle.mz_base.specs.declared.lattice.TheConstants.{MOST_KEY}
 use Rattle.mz_base.proofs.LimitLemmas.{IsCost-from_test}
 use Rattle.conversion_meaning.specs.Lattices.{AreInEndOrder, AreInOrder, HasCharacter, IsByEnd, IsEntry, IsWellFormed, entry, no_entry}
 use Rattle.conversion_meaning.specs.SmallLattices.{rises, is_entry, is_in_order, is_in_end_order, has_character, is_by_end, is_well}
-use Rattle.conversion_meaning.proofs.Lists.{All-from_among, AllPairs-from_rises, Among, Among-range, Rises}
+use Rattle.conversion_meaning.proofs.Lists.{All-from_among, AllPairs-from_rises, Among-range, Rises}
 use Rattle.conversion_meaning.proofs.Tests.{at_each}
 
 both : (a b : Bool) → (a && b) ≡ true → (a ≡ true) × (b ≡ true)

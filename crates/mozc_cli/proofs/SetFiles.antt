@@ -4,10 +4,6 @@ use Rattle.std.proofs.lemmas.Bool.{eqb-true}
 use Rattle.std.proofs.lemmas.List.{length-map, map-append}
 use Rattle.std.proofs.lemmas.List.Elements.{filter-append}
 use Rattle.std.proofs.lemmas.List.Sums.{length-filter, count_by-le-length}
-use Rattle.engine.specs.Sets.{has_role}
-use Rattle.engine.specs.Sets.{files_of as of_role}
-use Rattle.engine.specs.declared.files.SetFile.{SetFile}
-use Rattle.mz_base.specs.declared.fault.Role.{Role}
 use Rattle.mozc_cli.specs.DataSets.{files_of, others_of}
 use Rattle.mozc_cli.specs.declared.reading.DataFile.{DataFile}
 
@@ -35,7 +31,7 @@ files_of-others number other (file ∷ files) differ =
 pub few-filter : {A : Type 0} (test : A → Bool) (xs : List A) → length (filter test xs) ≤ length xs
 few-filter test xs = omega (arith, length-filter test xs, count_by-le-length test xs)
 
--- a set has no more files than there are, and neither have the others, nor a role among them
+-- a set has no more files than there are, and neither have the others
 pub few-files_of : (number : ℕ) (files : List DataFile) → length (files_of number files) ≤ length files
 few-files_of number files =
     let own = filter (λ (f : DataFile). f.set == number) files in
@@ -43,6 +39,3 @@ few-files_of number files =
 
 pub few-others_of : (number : ℕ) (files : List DataFile) → length (others_of number files) ≤ length files
 few-others_of number files = few-filter (λ (f : DataFile). not (f.set == number)) files
-
-pub few-of_role : (role : Role) (files : List SetFile) → length (of_role role files) ≤ length files
-few-of_role role files = few-filter (has_role role) files
