@@ -1,8 +1,13 @@
 pub mod AnswerLemmas
+pub mod FoldLemmas
 pub mod Found
+pub mod HitLemmas
+pub mod LaterRow
 pub mod LatestSteps
 pub mod LimitLemmas
+pub mod LineByLine
 pub mod NumberLemmas
+pub mod OrderLemmas
 pub mod RowFacts
 pub mod Turns
 pub mod Waiting

@@ -1,11 +1,12 @@
 -- What a data set means, and what its look-ups answer: docs/FORMATS.md, "Data files".
-use Rattle.std.specs.Prelude.{◌≡◌, ℕ, ◌+◌, ◌-◌, ◌*◌, ◌<◌, ◌≤◌, ℤ, pos, ◌≤ℤ◌, Bool, ◌&&◌, List, [], map, filter, find, length, nat_eq, nat_le, slice_index_or, slice_range, Option, IfSome}
+use Rattle.std.specs.Prelude.{◌≡◌, ℕ, ◌+◌, ◌-◌, ◌*◌, ◌<◌, ◌≤◌, ℤ, pos, ◌≤ℤ◌, Bool, ◌&&◌, List, [], map, filter, find, length, count_by, nat_eq, nat_le, slice_index_or, slice_range, take, int_lt, ◌∷◌, Option, IfSome}
 use Rattle.std.specs.List.{starts_with, flat_map, list_any, range_with_len}
 use Rattle.std.specs.Option.{option_map}
 use lib.Pointwise.{pointwise}
 use Rattle.mz_base.specs.Kana.{AreRules}
+use Rattle.mz_base.specs.Ordered.{in_order}
 use Rattle.mz_base.specs.declared.romaji.Rule.{Rule}
-use Rattle.mz_base.specs.declared.data.TheConstants.{MOST_IDS, MOST_WORDS, MOST_COST, LEAST_COST}
+use Rattle.mz_base.specs.declared.data.TheConstants.{MOST_IDS, MOST_WORDS, MOST_HOMOPHONES, MOST_COST, LEAST_COST}
 use Rattle.mz_base.specs.declared.data.Class.{Class}
 use Rattle.mz_base.specs.declared.data.Class.TheVariants.{Hiragana, Katakana, Digit, Letter, Other}
 use Rattle.mz_base.specs.declared.data.WordRow.{WordRow}
@@ -15,11 +16,16 @@ use Rattle.mz_base.specs.declared.data.PosRow.{PosRow}
 use Rattle.mz_base.specs.declared.data.ValueRow.{ValueRow}
 use Rattle.mz_base.specs.declared.data.WordView.{WordView}
 use Rattle.mz_base.specs.declared.data.Hit.{Hit}
+use Rattle.mz_base.specs.declared.data.FoundWord.{FoundWord}
+use Rattle.mz_base.specs.declared.data.PricedRow.{PricedRow}
+use Rattle.mz_base.specs.declared.data.IdRow.{IdRow}
 
--- the lists of a data set: the number of ids, the costs row by row, the five rows of the classes, and the rows of its files
+-- The lists of a data set: the number of ids, the costs row by row, the features of ids, the five rows of the classes,
+-- and the rows of its other files. A row of the kanji file has a reading and the characters for it.
 pub record DataLists : Type 0 where
   pub ids : ℕ
   pub costs : List ℤ
+  pub features : List IdRow
   pub unknown : List UnknownRow
   pub joins : List JoinRow
   pub pos : List PosRow
@@ -105,15 +111,57 @@ hits_to texts key begin end =
 unfoldable pub hits_at : List (List ℕ) → List ℕ → ℕ → List Hit
 hits_at texts key begin = flat_map (hits_to texts key begin) (range_with_len (begin + 1) (length key - begin))
 
+-- a word row that is found in a key, with its ids and its cost
+abbrev pub found_word : DataLists → Hit → FoundWord
+found_word d hit =
+    let row = word_at d hit.row in
+    record { end = hit.end; row = hit.row; lid = row.lid; rid = row.rid; cost = row.cost }
+
+-- a word row with its cost
+abbrev pub priced : DataLists → ℕ → PricedRow
+priced d row = record { row = row; cost = (word_at d row).cost }
+
+abbrev pub costs_less : PricedRow → PricedRow → Bool
+costs_less row other = int_lt row.cost other.cost
+
+-- the first so many of these rows, by cost and then by their order here
+abbrev pub cheapest : DataLists → ℕ → List ℕ → List PricedRow
+cheapest d most rows = take most (in_order costs_less (map (priced d) rows))
+
 -- the values for a reading, in the order of the rows
 unfoldable pub values_of : List ValueRow → List ℕ → List (List ℕ)
 values_of rows reading =
     map (λ (row : ValueRow). row.value) (filter (λ row. is_text reading row.reading) rows)
 
+-- the kanji rows with a row for each character
+abbrev pub single_kanji : ValueRow → List ValueRow
+single_kanji row = map (λ c. record { reading = row.reading; value = c ∷ [] }) row.value
+
+unfoldable pub kanji_rows : List ValueRow → List ValueRow
+kanji_rows rows = flat_map single_kanji rows
+
 -- a cost of a word or of a connection
 pub record IsCost (cost : ℤ) : Type 0 where
   pub above : LEAST_COST ≤ℤ cost
   pub below : cost ≤ℤ MOST_COST
+
+abbrev pub no_join : JoinRow
+no_join = record { first_right = 0; last_right = 0; first_left = 0; last_left = 0 }
+
+-- a join row by its place
+unfoldable pub join_at : DataLists → ℕ → JoinRow
+join_at d row = slice_index_or d.joins row no_join
+
+-- a join row has two ranges of ids that there are
+pub record IsJoinSound (ids : ℕ) (row : JoinRow) : Type 0 where
+  pub right : row.first_right ≤ row.last_right
+  pub last_right : row.last_right < ids
+  pub left : row.first_left ≤ row.last_left
+  pub last_left : row.last_left < ids
+
+-- how many rows have this reading
+abbrev pub times_in : List WordRow → List ℕ → ℕ
+times_in rows reading = count_by (λ row. is_text reading row.reading) rows
 
 -- a word row has a reading and a value, ids that there are, and a cost
 pub record IsWordSound (ids : ℕ) (row : WordRow) : Type 0 where
@@ -137,4 +185,6 @@ pub record AreDataSound (d : DataLists) : Type 0 where
   pub classes : (class : Class) → IsNode d.ids (unknown_of d class)
   pub parts : (name : List ℕ) → IfSome (pos_of d name) (IsNode d.ids)
   pub words : (i : ℕ) → i < length d.words → IsWordSound d.ids (word_at d i)
+  pub homophones : (reading : List ℕ) → times_in d.words reading ≤ MOST_HOMOPHONES
+  pub segments : (i : ℕ) → i < length d.joins → IsJoinSound d.ids (join_at d i)
   pub rules_sound : AreRules d.rules

@@ -3,11 +3,14 @@ pub mod Classes
 pub mod Data
 pub mod Faults
 pub mod FileLines
+pub mod Folds
 pub mod Kana
 pub mod Latest
+pub mod Lending
 pub mod Limits
 pub mod Lines
 pub mod Numbers
+pub mod Ordered
 pub mod Reports
 pub mod Rows
 pub mod Statuses

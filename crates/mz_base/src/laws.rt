@@ -1,8 +1,11 @@
-//! What follows from the definitions of specs/Kana.antt, for all rules and all texts.
+//! What follows from the definitions of specs/Kana.antt, Folds.antt, Rows.antt and Latest.antt, for all rules, texts and
+//! files.
 //! A caller of these learns them; nothing runs.
 
-ghost use Rattle.std.specs.Prelude.{◌≡◌, ◌↔◌, ℕ, ◌<◌, ◌≤◌, IsTrue, true, false, List, [], ◌++◌, Some, None, length};
+ghost use Rattle.std.specs.Prelude.{◌≡◌, ◌↔◌, ℕ, ◌<◌, ◌≤◌, IsTrue, true, false, Bool, not, List, [], ◌∷◌, ◌++◌, Some, None, filter, length};
 ghost use Rattle.std.specs.List.{Contains};
+ghost use Rattle.mz_base.specs.Folds.{katakana, hiragana, full_width, half_width};
+ghost use Rattle.mz_base.specs.Latest.{latest};
 ghost use Rattle.mz_base.specs.Kana.{AreRules, fits, longest, turn, after_output, waits, kana, finish};
 ghost use Rattle.mz_base.specs.declared.romaji.Rule.{Rule};
 
@@ -44,4 +47,33 @@ pub fn longest_is_longest()
     ensures none_longer { (rules : List Rule) (text : List ℕ) (rule other : Rule) → longest rules text ≡ Some rule →
         Contains rules other → IsTrue (fits text other) → length other.input ≤ length rule.input }
     ensures none { (rules : List Rule) (text : List ℕ) → (longest rules text ≡ None) ↔ ((rule : Rule) → Contains rules rule → fits text rule ≡ false) }
+{}
+
+/// A fold applied twice is applied once.
+pub fn folds_hold()
+    ensures katakana { (text : List ℕ) → katakana (katakana text) ≡ katakana text }
+    ensures hiragana { (text : List ℕ) → hiragana (hiragana text) ≡ hiragana text }
+    ensures full_width { (text : List ℕ) → full_width (full_width text) ≡ full_width text }
+    ensures half_width { (text : List ℕ) → half_width (half_width text) ≡ half_width text }
+{}
+
+/// Of hiragana and katakana the later fold alone counts.
+pub fn kana_folds_undo()
+    ensures hiragana { (text : List ℕ) → hiragana (katakana text) ≡ hiragana text }
+    ensures katakana { (text : List ℕ) → katakana (hiragana text) ≡ katakana text }
+{}
+
+/// Three of the folds keep the number of characters.
+pub fn folds_keep_length()
+    ensures katakana { (text : List ℕ) → length (katakana text) ≡ length text }
+    ensures hiragana { (text : List ℕ) → length (hiragana text) ≡ length text }
+    ensures full_width { (text : List ℕ) → length (full_width text) ≡ length text }
+{}
+
+/// Of repeated rows the later holds: a further row takes the place of the one that it repeats, and goes last. `same` says
+/// which rows repeat each other, as two rules of one input do.
+pub fn later_row_holds<T>()
+    ensures none { (same : T → T → Bool) → latest same [] ≡ [] }
+    ensures further { (same : T → T → Bool) (rows : List T) (row : T) →
+        latest same (rows ++ row ∷ []) ≡ filter (λ other. not (same other row)) (latest same rows) ++ row ∷ [] }
 {}

@@ -39,6 +39,11 @@ impl UserWords for NoUserWords {
         &[]
     }
 
+    #[tactic(auto, unfolding(crate::specs::Users::longest_reading))]
+    fn longest_reading(&self) -> usize {
+        0
+    }
+
     /// An empty row, at any place.
     fn row(&self, _place: u32) -> &UserRow
         ensures { result.now ≡ no_user_row }

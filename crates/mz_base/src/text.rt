@@ -43,6 +43,12 @@ impl Text {
         })
     }
 
+    pub fn copy(&self, alloc: Global) -> Result<Text, NoMemory>
+        ensures { IfOk result (λ t. t ≡ self.now) }
+    {
+        Text::from_chars(alloc, self.as_chars())
+    }
+
     pub fn as_chars(&self) -> &[char]
         ensures { result.now ≡ self.now }
     {

@@ -1,5 +1,5 @@
 ghost use Rattle.std.specs.Prelude.{◌≡◌, ◌<◌, ◌≤◌, List, length};
-ghost use Rattle.mz_base.specs.Users.{user_rows_with, user_row_at};
+ghost use Rattle.mz_base.specs.Users.{longest_reading, user_rows_with, user_row_at};
 ghost use Rattle.mz_base.specs.declared.user.UserRow.{UserRow};
 
 use crate::Text;
@@ -34,6 +34,10 @@ pub trait UserWords {
     fn row(&self, place: u32) -> &UserRow
         requires { place < length (rows self.now) }
         ensures { result.now ≡ user_row_at (rows self.now) place };
+
+    /// The most characters of a reading, 0 where there are no rows.
+    fn longest_reading(&self) -> usize
+        ensures { result ≡ longest_reading (rows self.now) };
 
     /// There are not too many.
     ghost few: { (x : Self) → length (rows x) ≤ MOST_USER_ROWS };
