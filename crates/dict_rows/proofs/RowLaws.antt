@@ -1,24 +1,27 @@
 -- What the rows of a dictionary file have.
-use Rattle.std.proofs.Common.{◌≡◌, ℕ, ◌+◌, ◌<◌, true, false, ◌||◌, eqb, List, [], ◌∷◌, ◌++◌, Option, Some, None, Ok, Err, length, length-append, append-nil, option_to_list, refl, arith, inl, inr, subst}
+use Rattle.std.proofs.Common.{◌≡◌, ℕ, ◌+◌, ◌<◌, ◌≤◌, true, false, ◌||◌, eqb, List, [], ◌∷◌, ◌++◌, Option, Some, None, Ok, Err, length, length-append, append-nil, option_to_list, refl, arith, inl, inr, subst}
+use Rattle.std.proofs.lemmas.Slice.Eq.{bytes_eq-Decides}
 use Rattle.std.specs.Str.{is_utf8}
 use Rattle.std.proofs.lemmas.Bool.{cases_Bool}
 use Rattle.std.proofs.lemmas.Bool.Decides.{nat_tests}
 use Rattle.std.proofs.lemmas.List.Elements.{All-append, All-cons, All-nil}
 use Rattle.mz_base.specs.Answers.{◌>>=◌}
-use Rattle.mz_base.specs.Data.{IsWordSound}
+use Rattle.mz_base.specs.Data.{IsWordSound, is_text, times_in}
 use Rattle.mz_base.specs.Lines.{fields_of}
 use Rattle.mz_base.specs.Rows.{rows_after}
-use Rattle.mz_base.specs.declared.data.TheConstants.{MOST_WORDS}
+use Rattle.mz_base.specs.declared.data.TheConstants.{MOST_WORDS, MOST_HOMOPHONES}
 use Rattle.mz_base.specs.declared.data.WordRow.{WordRow}
 use Rattle.mz_base.specs.declared.fault.FaultKind.TheVariants.{NotUtf8, Empty, Range, Limit}
 use Rattle.mz_base.proofs.LimitLemmas.{IsCost-from_test}
 use Rattle.dict_rows.specs.Rows.{RowFields, RowNumbers, are_in_range, fields_row, is_blank, passes_limit, ranged, row_fields, row_numbers, within_limits, word_of, word_row}
 use Rattle.dict_rows.specs.Words.{AreWords}
+use Rattle.dict_rows.proofs.TallyLemmas.{times_in-push}
 
 -- the row is sound, and it is not one too many after these
 pub record IsNext (ids : ℕ) (rows : List WordRow) (row : WordRow) : Type 0 where
   pub sound : IsWordSound ids row
   pub room : length rows < MOST_WORDS
+  pub seldom : times_in rows row.reading < MOST_HOMOPHONES
 
 IsNext-made : (ids : ℕ) (rows : List WordRow) (row : RowFields) (numbers : RowNumbers) → (is_blank row.reading || is_blank row.value) ≡ false → are_in_range ids numbers ≡ true → passes_limit rows row ≡ false → IsNext ids rows (word_of row numbers)
 IsNext-made ids rows row numbers filled ranged within = record {
@@ -30,6 +33,7 @@ IsNext-made ids rows row numbers filled ranged within = record {
     valued = grind (arith, nat_tests, filled);
   };
   room = grind (arith, nat_tests, within);
+  seldom = grind (arith, nat_tests, within);
 }
 
 -- what the numbers give
@@ -68,15 +72,31 @@ line-IsNext ids rows number line row given =
       | inr bytes ↦ let never : Err (NotUtf8 number) ≡ Ok (Some row) = rw bytes at given in absurd cc
     ]
 
+-- a row more of one reading
+times_in-more : (rows : List WordRow) (word : WordRow) (reading : List ℕ) → ((reading : List ℕ) → times_in rows reading ≤ MOST_HOMOPHONES) → times_in rows word.reading < MOST_HOMOPHONES → times_in (rows ++ word ∷ []) reading ≤ MOST_HOMOPHONES
+times_in-more rows word reading before seldom =
+    elim (cases_Bool (is_text reading word.reading)) [
+      | inl is ↦
+          let same : word.reading ≡ reading = (bytes_eq-Decides word.reading reading).0 is in
+          let more : times_in (rows ++ word ∷ []) reading ≡ times_in rows reading + 1 = rw is at (times_in-push rows word reading) in
+          let few : times_in rows reading < MOST_HOMOPHONES = subst (λ text. times_in rows text < MOST_HOMOPHONES) same seldom in
+          omega (arith, more, few)
+      | inr other ↦
+          let more : times_in (rows ++ word ∷ []) reading ≡ times_in rows reading + 0 = rw other at (times_in-push rows word reading) in
+          omega (arith, more, before reading)
+    ]
+
 more_words : (ids : ℕ) (rows : List WordRow) (row : Option WordRow) → ((word : WordRow) → row ≡ Some word → IsNext ids rows word) → AreWords ids rows → AreWords ids (rows ++ option_to_list row)
 more_words ids rows None next words = record {
   sound = All-append (IsWordSound ids) rows [] words.sound (All-nil (IsWordSound ids));
   few = rw append-nil words.few;
+  homophones = rw append-nil words.homophones;
 }
 more_words ids rows (Some word) next words =
     let is = next word refl in record {
       sound = All-append (IsWordSound ids) rows (word ∷ []) words.sound (All-cons (IsWordSound ids) word [] is.sound (All-nil (IsWordSound ids)));
       few = omega (arith, length-append rows (word ∷ []), is.room);
+      homophones = λ reading. times_in-more rows word reading words.homophones is.seldom;
     }
 
 -- line by line

@@ -8,12 +8,12 @@ use Rattle.std.proofs.lemmas.Slice.Eq.{bytes_eq-Decides}
 use Rattle.mz_base.specs.Data.{is_text}
 use Rattle.mz_base.specs.declared.data.TheConstants.{MOST_HOMOPHONES}
 use Rattle.mz_base.specs.declared.data.WordRow.{WordRow}
-use Rattle.dict_rows.specs.Rows.{times_in}
+use Rattle.mz_base.specs.Data.{times_in}
 use Rattle.dict_rows.specs.Tally.{IsTally, count_of}
 use Rattle.dict_rows.specs.declared.bucket.TheConstants.{BUCKETS}
 use Rattle.dict_rows.specs.declared.tally.Tally.{Tally}
 
-times_in-push : (rows : List WordRow) (row : WordRow) (text : List ℕ) → times_in (rows ++ row ∷ []) text ≡ times_in rows text + cond (is_text text row.reading) 1 0
+pub times_in-push : (rows : List WordRow) (row : WordRow) (text : List ℕ) → times_in (rows ++ row ∷ []) text ≡ times_in rows text + cond (is_text text row.reading) 1 0
 times_in-push rows row text = fold_push (λ a x. a + cond (is_text text x.reading) 1 0) 0 rows row
 
 -- where a count is raised, no other falls

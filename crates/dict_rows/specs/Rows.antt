@@ -1,8 +1,8 @@
 -- The rows of dictionary files: docs/FORMATS.md, "Dictionary".
-use Rattle.std.specs.Prelude.{ℕ, ℤ, ◌==◌, ◌&&◌, ◌||◌, Bool, not, List, ◌∷◌, Option, Some, None, Result, Ok, Err, if◌then◌else◌, length, count_by, nat_lt, nat_le}
+use Rattle.std.specs.Prelude.{ℕ, ℤ, ◌==◌, ◌&&◌, ◌||◌, Bool, not, List, ◌∷◌, Option, Some, None, Result, Ok, Err, if◌then◌else◌, length, nat_lt, nat_le}
 use Rattle.std.specs.Str.{chars, is_utf8}
 use Rattle.mz_base.specs.Answers.{◌>>=◌}
-use Rattle.mz_base.specs.Data.{is_text}
+use Rattle.mz_base.specs.Data.{times_in}
 use Rattle.mz_base.specs.Limits.{is_cost, is_long}
 use Rattle.mz_base.specs.Lines.{lines_of, fields_of}
 use Rattle.mz_base.specs.Numbers.{number_of, signed_of}
@@ -43,10 +43,6 @@ row_numbers row = numbers_from (number_of row.lid) (number_of row.rid) (signed_o
 abbrev pub are_in_range : ℕ → RowNumbers → Bool
 are_in_range ids numbers =
     nat_lt numbers.lid ids && (nat_lt numbers.rid ids && is_cost numbers.cost)
-
--- how many rows have this reading
-abbrev pub times_in : List WordRow → List ℕ → ℕ
-times_in rows reading = count_by (λ row. is_text reading row.reading) rows
 
 -- a row more after these, or one of its texts, passes a limit
 abbrev pub passes_limit : List WordRow → RowFields → Bool

@@ -3,7 +3,7 @@ use Rattle.std.specs.Prelude.{◌≡◌, ◌<◌, ◌≤◌, ℕ, List, length, 
 use Rattle.mz_base.specs.declared.data.TheConstants.{MOST_HOMOPHONES}
 use Rattle.mz_base.specs.declared.data.WordRow.{WordRow}
 use Rattle.dict_rows.specs.Bucket.{bucket_of}
-use Rattle.dict_rows.specs.Rows.{times_in}
+use Rattle.mz_base.specs.Data.{times_in}
 use Rattle.dict_rows.specs.declared.bucket.TheConstants.{BUCKETS}
 use Rattle.dict_rows.specs.declared.tally.Tally.{Tally}
 

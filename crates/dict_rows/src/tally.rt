@@ -1,6 +1,6 @@
 ghost use Rattle.std.specs.Prelude.{◌≡◌, ◌++◌, ◌∷◌, [], List, IfOk, length, nat_le};
 ghost use Rattle.mz_base.specs.declared.data.TheConstants.{MOST_HOMOPHONES};
-ghost use Rattle.dict_rows.specs.Rows.{times_in};
+ghost use Rattle.mz_base.specs.Data.{times_in};
 ghost use Rattle.dict_rows.specs.declared.bucket.TheConstants.{BUCKETS};
 
 use crate::bucket::{BUCKETS, bucket_of};

@@ -5,7 +5,8 @@ use Rattle.mz_base.specs.declared.data.TheConstants.{MOST_HOMOPHONES, MOST_WORDS
 use Rattle.mz_base.specs.declared.data.WordRow.{WordRow}
 use Rattle.mz_base.specs.declared.fault.FaultKind.TheVariants.{Limit}
 use Rattle.dict_rows.specs.Columns.{row_of_columns, numbers_view}
-use Rattle.dict_rows.specs.Rows.{RowFields, RowNumbers, numbers_in, passes_limit, times_in, within_limits, word_of}
+use Rattle.dict_rows.specs.Rows.{RowFields, RowNumbers, numbers_in, passes_limit, within_limits, word_of}
+use Rattle.mz_base.specs.Data.{times_in}
 use Rattle.dict_rows.proofs.reader.WordReader.read_columns.Goals as goal
 
 only_last : (first second third last : Bool) → (first || (second || third)) ≡ false → (first || (second || (third || last))) ≡ last
