@@ -1,5 +1,6 @@
 pub mod GroupLemmas
 pub mod IdSlots
+pub mod JoinLemmas
 pub mod LatestLemmas
 pub mod NodeLemmas
 pub mod PosLemmas

@@ -1,6 +1,5 @@
 -- The rows of the files of symbols and of single kanji: docs/FORMATS.md, "Symbols" and "Kanji".
-use Rattle.std.specs.Prelude.{ℕ, ◌==◌, ◌||◌, Bool, not, List, [], ◌∷◌, map, Option, Some, None, Result, Ok, Err, if◌then◌else◌, length, nat_le}
-use Rattle.std.specs.List.{flat_map}
+use Rattle.std.specs.Prelude.{ℕ, ◌==◌, ◌||◌, Bool, not, List, [], ◌∷◌, Option, Some, None, Result, Ok, Err, if◌then◌else◌, length, nat_le}
 use Rattle.std.specs.Str.{chars, is_utf8}
 use Rattle.mz_base.specs.Answers.{◌>>=◌}
 use Rattle.mz_base.specs.Limits.{is_long}
@@ -42,11 +41,3 @@ value_row rows number line =
 -- the rows of a file, or its first fault
 abbrev pub value_rows : List ℕ → Result (List ValueRow) FaultKind
 value_rows bytes = rows_after value_row [] 1 (lines_of bytes)
-
--- each character of a row is a value
-abbrev pub kanji_of : ValueRow → List ValueRow
-kanji_of row = map (λ letter. record { reading = row.reading; value = letter ∷ [] }) row.value
-
--- the rows with a row for each character
-unfoldable pub kanji_rows : List ValueRow → List ValueRow
-kanji_rows rows = flat_map kanji_of rows

@@ -1,7 +1,7 @@
 ghost use Rattle.std.specs.Prelude.{◌≡◌, ◌++◌, IfOk, OnOk};
 ghost use Rattle.mz_base.specs.Answers.{Gives};
-ghost use Rattle.mz_base.specs.Data.{values_of};
-ghost use Rattle.pos_table.specs.Values.{value_rows, kanji_rows, kanji_of};
+ghost use Rattle.mz_base.specs.Data.{values_of, kanji_rows, single_kanji};
+ghost use Rattle.pos_table.specs.Values.{value_rows};
 
 use crate::groups::Groups;
 use crate::values::read_values;
@@ -20,7 +20,7 @@ impl Model for Kanji {
     ghost use Rattle.std.specs.Prelude.{List};
     ghost use Rattle.mz_base.specs.declared.data.ValueRow.{ValueRow};
     ghost use Rattle.pos_table.specs.Groups.{AreGroups};
-    ghost use Rattle.pos_table.specs.Values.{kanji_rows};
+    ghost use Rattle.mz_base.specs.Data.{kanji_rows};
 
     ghost Value = { List ValueRow };
 
@@ -62,7 +62,7 @@ impl Kanji {
 }
 
 /// The rows with a row for each character.
-#[tactic(auto, unfolding(crate::specs::Values::kanji_rows))]
+#[tactic(auto, unfolding(mz_base::specs::Data::kanji_rows))]
 fn single_rows(alloc: Global, rows: &[ValueRow]) -> Result<Vec<ValueRow>, NoMemory>
     ensures { IfOk result (λ single. single.items ≡ kanji_rows rows.now) }
 {
@@ -74,7 +74,7 @@ fn single_rows(alloc: Global, rows: &[ValueRow]) -> Result<Vec<ValueRow>, NoMemo
 }
 
 fn add_kanji(alloc: Global, single: &mut Vec<ValueRow>, row: &ValueRow) -> Result<(), NoMemory>
-    ensures { OnOk result (single.new.items ≡ single.old.items ++ kanji_of row.now) }
+    ensures { OnOk result (single.new.items ≡ single.old.items ++ single_kanji row.now) }
 {
     for letter in row.value.as_chars() {
         single.push(ValueRow {

@@ -1,9 +1,13 @@
 ghost use Rattle.std.specs.Prelude.{◌≡◌, ◌<◌, ℕ, List, Ok};
+ghost use Rattle.std.specs.List.{All};
+ghost use Rattle.mz_base.specs.Data.{IsJoinSound};
 ghost use Rattle.mz_base.specs.declared.data.IdRow.{IdRow};
+ghost use Rattle.mz_base.specs.declared.data.JoinRow.{JoinRow};
 ghost use Rattle.mz_base.specs.declared.data.PosRow.{PosRow};
 ghost use Rattle.mz_base.specs.declared.data.UnknownRow.{UnknownRow};
 ghost use Rattle.pos_table.specs.Classes.{unknown_rows};
 ghost use Rattle.pos_table.specs.Ids.{id_rows};
+ghost use Rattle.pos_table.specs.Joins.{join_rows};
 ghost use Rattle.pos_table.specs.Nodes.{AreIds, AreNodes, ArePosNodes};
 ghost use Rattle.pos_table.specs.UserPos.{pos_rows};
 
@@ -20,4 +24,9 @@ pub fn id_rows_are_ids()
 /// The rows that a file of parts of speech gives are within their limits.
 pub fn pos_rows_are_nodes()
     ensures { (ids : ℕ) (features : List IdRow) (bytes : List ℕ) (rows : List PosRow) → AreIds ids features → pos_rows features bytes ≡ Ok rows → ArePosNodes ids rows }
+{}
+
+/// The rows that a segment file gives are ranges of ids that there are.
+pub fn join_rows_are_sound()
+    ensures { (ids : ℕ) (bytes : List ℕ) (rows : List JoinRow) → join_rows ids bytes ≡ Ok rows → All (IsJoinSound ids) rows }
 {}

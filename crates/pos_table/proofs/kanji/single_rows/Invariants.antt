@@ -1,5 +1,5 @@
 use Rattle.std.proofs.Common.{◌≡◌, take}
-use Rattle.pos_table.specs.Values.{kanji_rows}
+use Rattle.mz_base.specs.Data.{kanji_rows}
 use Rattle.pos_table.proofs.kanji.single_rows.Given as goal
 
 abbrev pub invariant-loop-row : goal.invariant-loop-row
