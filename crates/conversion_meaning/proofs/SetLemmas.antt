@@ -1,14 +1,16 @@
 -- The data set of the examples is within its limits.
-use Rattle.std.proofs.Common.{◌≡◌, refl, ℕ, zero, suc, ◌+◌, ◌*◌, ◌<◌, ℤ, pos, Bool, true, false, cond, ◌&&◌, List, [], ◌∷◌, length, get_or, arith, rules, lit<, lit≤}
+use Rattle.std.proofs.Common.{◌≡◌, refl, ℕ, zero, suc, ◌+◌, ◌*◌, ◌<◌, ◌≤◌, ℤ, pos, Bool, true, false, cond, ◌&&◌, List, [], ◌∷◌, length, get_or, arith, rules, lit<, lit≤}
 use Rattle.std.specs.Prelude.{IfSome, Some, None, nat_lt}
 use Rattle.std.specs.List.{list_all}
 use Rattle.std.specs.Option.{option_map}
 use Rattle.std.proofs.lemmas.Bool.Decides.{nat_tests}
-use Rattle.mz_base.specs.Data.{AreDataSound, IsCost, IsNode, IsWordSound, connection, is_text, pos_of, unknown_of, word_at}
+use Rattle.std.proofs.lemmas.List.Sums.{count_by-le-length}
+use Rattle.mz_base.specs.Data.{AreDataSound, IsCost, IsJoinSound, IsNode, IsWordSound, connection, is_text, join_at, pos_of, times_in, unknown_of, word_at}
 use Rattle.mz_base.specs.Limits.{is_cost}
 use Rattle.mz_base.specs.declared.data.Class.{Class}
 use Rattle.mz_base.specs.declared.data.Class.TheVariants.{Hiragana, Katakana, Digit, Letter, Other}
 use Rattle.mz_base.specs.declared.data.PosRow.{PosRow}
+use Rattle.mz_base.specs.declared.data.TheConstants.{MOST_HOMOPHONES}
 use Rattle.mz_base.specs.declared.data.WordRow.{WordRow}
 use Rattle.mz_base.proofs.LimitLemmas.{IsCost-from_test}
 use Rattle.conversion_meaning.specs.Examples.{noun, set, suppressed_part}
@@ -81,6 +83,17 @@ words_small (suc (suc (suc (suc zero)))) inside = IsWordSound-from_test (word_at
 words_small (suc (suc (suc (suc (suc zero))))) inside = IsWordSound-from_test (word_at set 5) refl
 words_small (suc (suc (suc (suc (suc (suc i)))))) inside = absurd (omega arith)
 
+-- six words have no more than six of one reading
+few_of : (reading : List ℕ) → times_in set.words reading ≤ MOST_HOMOPHONES
+few_of reading =
+    let few : times_in set.words reading ≤ 6 = count_by-le-length (λ (row : WordRow). is_text reading row.reading) set.words in
+    omega (arith, few)
+
+joins_small : (i : ℕ) → i < 1 → IsJoinSound 3 (join_at set i)
+unfolding join_at
+joins_small zero inside = record { right = lit≤ tt; last_right = lit< tt; left = lit≤ tt; last_left = lit< tt }
+joins_small (suc i) inside = absurd (omega arith)
+
 pub AreDataSound-set : AreDataSound set
 AreDataSound-set =
     record {
@@ -91,5 +104,7 @@ AreDataSound-set =
       classes = classes_small;
       parts = parts_small;
       words = words_small;
+      homophones = few_of;
+      segments = joins_small;
       rules_sound = record { each = tt; distinct = search rules };
     }

@@ -40,6 +40,7 @@ set =
     record {
       ids = 3;
       costs = pos 0 ∷ pos 100 ∷ pos 500 ∷ pos 100 ∷ pos 400 ∷ pos 50 ∷ pos 200 ∷ pos 100 ∷ pos 800 ∷ [];
+      features = [];
       unknown = unknown_row 1 5000 ∷ unknown_row 1 6000 ∷ unknown_row 1 6000 ∷ unknown_row 1 6000 ∷ unknown_row 1 6000 ∷ [];
       joins = record { first_right = 1; last_right = 1; first_left = 2; last_left = 2 } ∷ [];
       pos = noun ∷ suppressed_part ∷ [];

@@ -1,13 +1,14 @@
 -- The data that files give are within their limits.
 use Rattle.std.proofs.Common.{◌≡◌, ℕ, zero, suc, ◌+◌, ◌*◌, ◌<◌, pos, Bool, List, [], ◌∷◌, Option, Some, None, Result, Ok, Err, get_or, refl, arith, inl, inr, subst, rules, lit<, lit≤}
 use Rattle.std.specs.Prelude.{IfSome}
-use Rattle.std.specs.List.{AllByRecursion, find}
+use Rattle.std.specs.List.{All, AllByRecursion, find}
 use Rattle.std.specs.Option.{option_map}
 use Rattle.std.proofs.lemmas.Bool.{cases_Bool}
 use Rattle.std.proofs.lemmas.List.Elements.{All-nil}
-use Rattle.mz_base.specs.Data.{AreDataSound, DataLists, IsCost, IsNode, class_place, connection, is_text, no_unknown, no_word, pos_of, unknown_of, word_at}
+use Rattle.mz_base.specs.Data.{AreDataSound, DataLists, IsCost, IsJoinSound, IsNode, class_place, connection, is_text, join_at, no_join, no_unknown, no_word, pos_of, unknown_of, word_at}
 use Rattle.mz_base.specs.Kana.{AreRules}
 use Rattle.mz_base.specs.Lines.{lines_of}
+use Rattle.mz_base.specs.declared.data.IdRow.{IdRow}
 use Rattle.mz_base.specs.declared.data.JoinRow.{JoinRow}
 use Rattle.mz_base.specs.declared.data.PosRow.{PosRow}
 use Rattle.mz_base.specs.declared.data.UnknownRow.{UnknownRow}
@@ -16,7 +17,7 @@ use Rattle.mz_base.specs.declared.data.WordRow.{WordRow}
 use Rattle.mz_base.specs.declared.fault.Fault.{Fault}
 use Rattle.mz_base.specs.declared.fault.FaultKind.{FaultKind}
 use Rattle.mz_base.specs.declared.fault.Role.{Role}
-use Rattle.mz_base.specs.declared.fault.Role.TheVariants.{Connection, Id, Unk, UserPos, Romaji, Dictionary}
+use Rattle.mz_base.specs.declared.fault.Role.TheVariants.{Connection, Id, Segment, Unk, UserPos, Romaji, Dictionary}
 use Rattle.mz_base.specs.declared.romaji.Rule.{Rule}
 use Rattle.mz_base.proofs.LimitLemmas.{IsCost-from_test}
 use Rattle.conn_matrix.specs.Costs.{CostTable, IsTable, table_in}
@@ -28,14 +29,15 @@ use Rattle.pos_table.specs.Classes.{no_node, nodes_of, unknown_rows}
 use Rattle.pos_table.specs.Ids.{id_rows}
 use Rattle.pos_table.specs.Nodes.{AreIds, AreNodes, ArePosNodes}
 use Rattle.pos_table.specs.UserPos.{pos_rows}
-use Rattle.pos_table.specs.Values.{kanji_rows}
+use Rattle.pos_table.specs.Joins.{join_rows}
+use Rattle.pos_table.proofs.JoinLemmas.{joins-sound}
 use Rattle.pos_table.proofs.NodeLemmas.{AreNodes-read}
 use Rattle.pos_table.proofs.PosLemmas.{AreIds-read, ArePosNodes-read}
 use Rattle.romaji_table.specs.Rows.{romaji_rows}
 use Rattle.romaji_table.proofs.RuleLaws.{AreRules-read}
 use Rattle.engine.specs.Sets.{bytes_of, costs_given, data_of, features_given, files_of, from_bytes, from_file, in_file, joins_given, kanji_given, names_given, one_id, rules_given, symbols_given, unknown_given, words_after, words_given}
 use Rattle.engine.specs.declared.files.SetFile.{SetFile}
-use Rattle.engine.proofs.AnswerLemmas.{part_gave}
+use Rattle.mz_base.proofs.AnswerLemmas.{part_gave}
 
 -- what a file gave, its reader gave
 pub in_file-Ok : {A : Type 0} (role : Role) (nth : ℕ) (read : Result A FaultKind) (value : A) → in_file role nth read ≡ Ok value → read ≡ Ok value
@@ -78,7 +80,7 @@ AreNodes-none ids some =
     let node = no_node-IsNode ids some in (node, (node, (node, (node, (node, tt)))))
 
 AreWords-none : (ids : ℕ) → AreWords ids []
-AreWords-none ids = record { sound = All-nil _; few = omega arith }
+AreWords-none ids = record { sound = All-nil _; few = omega arith; homophones = λ reading. omega arith }
 
 -- the words of all files
 words-AreWords : (ids : ℕ) (words : List WordRow) (nth : ℕ) (files : List SetFile) (all : List WordRow) → AreWords ids words → words_after ids words nth files ≡ Ok all → AreWords ids all
@@ -97,9 +99,9 @@ found-IsNode ids p (row ∷ names) are =
     ]
 
 -- data of such parts
-made-sound : (table : CostTable) (unknown : List UnknownRow) (joins : List JoinRow) (names : List PosRow) (rules : List Rule) (words : List WordRow) (symbols kanji : List ValueRow) → IsTable table → AreNodes table.size unknown → ArePosNodes table.size names → AreRules rules → AreWords table.size words → AreDataSound (record { ids = table.size; costs = table.costs; unknown = unknown; joins = joins; pos = names; rules = rules; words = words; symbols = symbols; kanji = kanji })
-unfolding connection unknown_of pos_of word_at
-made-sound table unknown joins names rules words symbols kanji is nodes parts are_rules are_words =
+made-sound : (table : CostTable) (features : List IdRow) (unknown : List UnknownRow) (joins : List JoinRow) (names : List PosRow) (rules : List Rule) (words : List WordRow) (symbols kanji : List ValueRow) → IsTable table → AreNodes table.size unknown → ArePosNodes table.size names → AreRules rules → AreWords table.size words → All (IsJoinSound table.size) joins → AreDataSound (record { ids = table.size; costs = table.costs; features = features; unknown = unknown; joins = joins; pos = names; rules = rules; words = words; symbols = symbols; kanji = kanji })
+unfolding connection unknown_of pos_of word_at join_at
+made-sound table features unknown joins names rules words symbols kanji is nodes parts are_rules are_words are_joins =
     record {
       some_ids = is.some;
       few_ids = is.square.few;
@@ -108,6 +110,8 @@ made-sound table unknown joins names rules words symbols kanji is nodes parts ar
       classes = λ class. element-has (λ (row : UnknownRow). IsNode table.size (row.id, row.cost)) no_unknown (record { id = is.some; cost = no_cost }) unknown nodes (class_place class);
       parts = λ name. found-IsNode table.size (λ (row : PosRow). is_text name row.name) names parts;
       words = λ i inside. are_words.sound i no_word inside;
+      homophones = are_words.homophones;
+      segments = λ i inside. are_joins i no_join inside;
       rules_sound = are_rules;
     }
 
@@ -134,4 +138,5 @@ AreDataSound-given files given is =
     let parts = file-has (ArePosNodes table.size) UserPos [] (pos_rows features) files names tt (λ bytes rows. ArePosNodes-read table.size features bytes rows are_ids) names_is in
     let are_rules = file-has AreRules Romaji [] romaji_rows files rules (record { each = tt; distinct = tt }) AreRules-read rules_is in
     let are_words = words-AreWords table.size [] 1 (files_of Dictionary files) words (AreWords-none table.size) words_is in
-    given-sound (record { ids = table.size; costs = table.costs; unknown = unknown; joins = joins; pos = names; rules = rules; words = words; symbols = symbols; kanji = kanji_rows kanji }) _ given refl after_kanji (made-sound table unknown joins names rules words symbols (kanji_rows kanji) square nodes parts are_rules are_words)
+    let are_joins = file-has (All (IsJoinSound table.size)) Segment [] (join_rows table.size) files joins (All-nil (IsJoinSound table.size)) (joins-sound table.size) joins_is in
+    given-sound (record { ids = table.size; costs = table.costs; features = features; unknown = unknown; joins = joins; pos = names; rules = rules; words = words; symbols = symbols; kanji = kanji }) _ given refl after_kanji (made-sound table features unknown joins names rules words symbols kanji square nodes parts are_rules are_words are_joins)

@@ -21,7 +21,7 @@ use Rattle.pos_table.specs.Classes.{nodes_of, unknown_rows}
 use Rattle.pos_table.specs.Ids.{id_rows}
 use Rattle.pos_table.specs.Joins.{join_rows}
 use Rattle.pos_table.specs.UserPos.{pos_rows}
-use Rattle.pos_table.specs.Values.{kanji_rows, value_rows}
+use Rattle.pos_table.specs.Values.{value_rows}
 use Rattle.romaji_table.specs.Rows.{romaji_rows}
 use Rattle.engine.specs.declared.files.SetFile.{SetFile}
 
@@ -111,4 +111,4 @@ data_of files = do
   words ← words_given table.size files
   symbols ← symbols_given files
   kanji ← kanji_given files
-  Ok (record { ids = table.size; costs = table.costs; unknown = unknown; joins = joins; pos = names; rules = rules; words = words; symbols = symbols; kanji = kanji_rows kanji })
+  Ok (record { ids = table.size; costs = table.costs; features = features; unknown = unknown; joins = joins; pos = names; rules = rules; words = words; symbols = symbols; kanji = kanji })

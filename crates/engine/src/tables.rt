@@ -18,6 +18,7 @@ use std::alloc::Global;
 #[derive(Drop)]
 pub struct Tables {
     pub matrix: Matrix,
+    pub ids: Ids,
     pub unknown: Unknown,
     pub joins: Joins,
     pub pos: UserPos,
@@ -44,6 +45,7 @@ pub fn read_tables(alloc: Global, files: &[SetFile]) -> Result<Tables, BuildErro
     let kanji = read_kanji(alloc, files)?;
     Ok(Tables {
         matrix,
+        ids,
         unknown,
         joins,
         pos,

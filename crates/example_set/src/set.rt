@@ -134,7 +134,7 @@ impl DataSet for ExampleSet {
         &[]
     }
 
-    #[tactic(auto, unfolding(mz_base::specs::Data::values_of))]
+    #[tactic(auto, unfolding(mz_base::specs::Data::values_of, mz_base::specs::Data::kanji_rows))]
     fn kanji(&self, _reading: &[char]) -> &[Text] {
         &[]
     }

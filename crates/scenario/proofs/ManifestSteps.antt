@@ -22,9 +22,3 @@ module _ (told : Told) (lines : List (Bor (List ℕ))) (i : ℕ) where
   -- no line is left
   pub manifest_after-end : length lines ≤ i → manifest_after told (i + 1) (pointed (drop i lines)) ≡ finished (i + 1) told
   manifest_after-end past = at_drop_all (λ rest. manifest_after told (i + 1) (pointed rest)) lines i past
-
--- a refusal is passed on, and the manifest has it where the line has it
-pub Gives-refused : {A B C D : Type 0} (view : A → B) (part_view : C → D) (answer : Result A ManifestError) (error : ManifestError) (part : Result D ManifestError) (whole : Result B ManifestError) → answer ≡ Err error → Gives part_view (Err error) part → ((fault : ManifestError) → part ≡ Err fault → whole ≡ Err fault) → Gives view answer whole
-Gives-refused view part_view answer (Bad line) part whole is given passes = rw is (passes (Bad line) given)
-Gives-refused view part_view answer (TooLarge limit line) part whole is given passes = rw is (passes (TooLarge limit line) given)
-Gives-refused view part_view answer NoMemory part whole is given passes = rw is tt

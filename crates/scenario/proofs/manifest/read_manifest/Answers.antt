@@ -1,14 +1,16 @@
 use Rattle.std.proofs.Common.{◌≡◌, ◌≤◌, length, Err, sym, ap, ◌∙◌, arith}
 use Rattle.std.proofs.lemmas.Result.{err_from_is_err_and}
 use Rattle.scenario.specs.Manifests.{manifest_of}
-use Rattle.scenario.proofs.ManifestSteps.{manifest_after-line, manifest_after-end, Gives-refused}
+use Rattle.mz_base.proofs.AnswerLemmas.{GivesBy-refused}
+use Rattle.scenario.specs.ManifestAnswers.{line_fault}
+use Rattle.scenario.proofs.ManifestSteps.{manifest_after-line, manifest_after-end}
 use Rattle.scenario.proofs.manifest.read_manifest.Goals as goal
 
 pub returns-in_err-read_line-clause-told : goal.returns-in_err-read_line-clause-told
 unfolding manifest_of
 returns-in_err-read_line-clause-told c =
     let error = err_from_is_err_and c.from_residual-in_err-read_line.result c.from_residual-in_err-read_line.ensures.1 in
-    Gives-refused _ (λ (_ : Unit {0}). c.read_line.new.self) _ _ _ _ (error.1 ∙ ap Err error.2) c.in_err-read_line.ensures.told (λ fault refused. rw (← c.in_ok-lines.ensures, ← c.deref-line-items.ensures.value, ← c.loop-index.invariant.0) (manifest_after-line _ c.deref-line-items.result.now _ _ _ c.loop-index-test.true refused))
+    GivesBy-refused line_fault _ (λ (_ : Unit {0}). c.read_line.new.self) _ _ _ _ (error.1 ∙ ap Err error.2) c.in_err-read_line.ensures.told (λ fault refused. rw (← c.in_ok-lines.ensures, ← c.deref-line-items.ensures.value, ← c.loop-index.invariant.0) (manifest_after-line _ c.deref-line-items.result.now _ _ _ c.loop-index-test.true refused))
 
 pub loop-index-preserved : goal.loop-index-preserved
 loop-index-preserved c = (
