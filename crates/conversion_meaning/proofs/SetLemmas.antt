@@ -1,16 +1,18 @@
 -- The data set of the examples is within its limits.
 use Rattle.std.proofs.Common.{◌≡◌, refl, ℕ, zero, suc, ◌+◌, ◌*◌, ◌<◌, ◌≤◌, ℤ, pos, Bool, true, false, cond, ◌&&◌, List, [], ◌∷◌, length, get_or, arith, rules, lit<, lit≤}
-use Rattle.std.specs.Prelude.{IfSome, Some, None, nat_lt}
-use Rattle.std.specs.List.{list_all}
+use Rattle.std.specs.Prelude.{IfSome, Some, None, nat_lt, nat_le, encode_utf8_all}
+use Rattle.std.specs.List.{All, list_all}
 use Rattle.std.specs.Option.{option_map}
+use Rattle.std.proofs.lemmas.Bool.{leb-true}
 use Rattle.std.proofs.lemmas.Bool.Decides.{nat_tests}
+use Rattle.std.proofs.lemmas.List.Elements.{All-cons, All-nil}
 use Rattle.std.proofs.lemmas.List.Sums.{count_by-le-length}
-use Rattle.mz_base.specs.Data.{AreDataSound, IsCost, IsJoinSound, IsNode, IsWordSound, connection, is_text, join_at, pos_of, times_in, unknown_of, word_at}
+use Rattle.mz_base.specs.Data.{AreDataSound, AreTextsShort, IsCost, IsJoinSound, IsNode, IsShort, IsWordSound, connection, is_text, join_at, pos_of, times_in, unknown_of, word_at}
 use Rattle.mz_base.specs.Limits.{is_cost}
 use Rattle.mz_base.specs.declared.data.Class.{Class}
 use Rattle.mz_base.specs.declared.data.Class.TheVariants.{Hiragana, Katakana, Digit, Letter, Other}
 use Rattle.mz_base.specs.declared.data.PosRow.{PosRow}
-use Rattle.mz_base.specs.declared.data.TheConstants.{MOST_HOMOPHONES}
+use Rattle.mz_base.specs.declared.data.TheConstants.{MOST_HOMOPHONES, MOST_FIELD_BYTES}
 use Rattle.mz_base.specs.declared.data.WordRow.{WordRow}
 use Rattle.mz_base.proofs.LimitLemmas.{IsCost-from_test}
 use Rattle.conversion_meaning.specs.Examples.{noun, set, suppressed_part}
@@ -51,14 +53,19 @@ parts_small name = by_tests (is_text name noun.name) (is_text name suppressed_pa
     by_tests false true = node_small 2 (pos 200) (lit< tt) refl
     by_tests false false = search rules
 
+abbrev is_short : List ℕ → Bool
+is_short text = nat_le (length (encode_utf8_all text)) MOST_FIELD_BYTES
+
 -- a row's limits as a test
 abbrev is_word : WordRow → Bool
 is_word row =
-    (nat_lt 0 (length row.reading) && nat_lt 0 (length row.value)) && ((nat_lt row.lid 3 && nat_lt row.rid 3) && is_cost row.cost)
+    ((nat_lt 0 (length row.reading) && nat_lt 0 (length row.value)) && ((nat_lt row.lid 3 && nat_lt row.rid 3) && is_cost row.cost)) && (is_short row.reading && is_short row.value)
 
 IsWordSound-from_test : (row : WordRow) → is_word row ≡ true → IsWordSound 3 row
 IsWordSound-from_test row is =
-    let a = both (nat_lt 0 (length row.reading) && nat_lt 0 (length row.value)) _ is in
+    let parts = both _ (is_short row.reading && is_short row.value) is in
+    let short = both (is_short row.reading) (is_short row.value) parts.1 in
+    let a = both (nat_lt 0 (length row.reading) && nat_lt 0 (length row.value)) _ parts.0 in
     let texts = both (nat_lt 0 (length row.reading)) _ a.0 in
     let b = both (nat_lt row.lid 3 && nat_lt row.rid 3) (is_cost row.cost) a.1 in
     let ids = both (nat_lt row.lid 3) _ b.0 in
@@ -68,13 +75,15 @@ IsWordSound-from_test row is =
       right = below row.rid 3 ids.1;
       cost = IsCost-from_test row.cost b.1;
       valued = below 0 _ texts.1;
+      short_reading = leb-true _ _ short.0;
+      short_value = leb-true _ _ short.1;
     }
   where
     below : (a b : ℕ) → nat_lt a b ≡ true → a < b
     below a b is = grind (arith, nat_tests)
 
 words_small : (i : ℕ) → i < 6 → IsWordSound 3 (word_at set i)
-unfolding word_at
+unfolding word_at lib.Utf8.encode
 words_small zero inside = IsWordSound-from_test (word_at set 0) refl
 words_small (suc zero) inside = IsWordSound-from_test (word_at set 1) refl
 words_small (suc (suc zero)) inside = IsWordSound-from_test (word_at set 2) refl
@@ -94,6 +103,24 @@ unfolding join_at
 joins_small zero inside = record { right = lit≤ tt; last_right = lit< tt; left = lit≤ tt; last_left = lit< tt }
 joins_small (suc i) inside = absurd (omega arith)
 
+name_short : (name : List ℕ) → is_short name ≡ true → IsShort name
+name_short name is = leb-true _ _ is
+
+parts_short : All (λ (row : PosRow). IsShort row.name) set.pos
+unfolding lib.Utf8.encode
+parts_short =
+    let P : PosRow → Type 0 = λ row. IsShort row.name in
+    All-cons P noun (suppressed_part ∷ []) (name_short noun.name refl) (All-cons P suppressed_part [] (name_short suppressed_part.name refl) (All-nil P))
+
+texts_short : AreTextsShort set
+texts_short = record {
+  features = All-nil _;
+  parts = parts_short;
+  rules = All-nil _;
+  symbols = All-nil _;
+  kanji = All-nil _;
+}
+
 pub AreDataSound-set : AreDataSound set
 AreDataSound-set =
     record {
@@ -106,5 +133,6 @@ AreDataSound-set =
       words = words_small;
       homophones = few_of;
       segments = joins_small;
+      texts = texts_short;
       rules_sound = record { each = tt; distinct = search rules };
     }

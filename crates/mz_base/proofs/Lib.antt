@@ -9,5 +9,6 @@ pub mod LineByLine
 pub mod NumberLemmas
 pub mod OrderLemmas
 pub mod RowFacts
+pub mod TextFields
 pub mod Turns
 pub mod Waiting

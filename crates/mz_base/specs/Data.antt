@@ -1,12 +1,12 @@
 -- What a data set means, and what its look-ups answer: docs/FORMATS.md, "Data files".
-use Rattle.std.specs.Prelude.{◌≡◌, ℕ, ◌+◌, ◌-◌, ◌*◌, ◌<◌, ◌≤◌, ℤ, pos, ◌≤ℤ◌, Bool, ◌&&◌, List, [], map, filter, find, length, count_by, nat_eq, nat_le, slice_index_or, slice_range, take, int_lt, ◌∷◌, Option, IfSome}
-use Rattle.std.specs.List.{starts_with, flat_map, list_any, range_with_len}
+use Rattle.std.specs.Prelude.{◌≡◌, ℕ, ◌+◌, ◌-◌, ◌*◌, ◌<◌, ◌≤◌, ℤ, pos, ◌≤ℤ◌, Bool, ◌&&◌, List, [], map, filter, find, length, count_by, nat_eq, nat_le, slice_index_or, slice_range, take, int_lt, encode_utf8_all, ◌∷◌, Option, IfSome}
+use Rattle.std.specs.List.{All, starts_with, flat_map, list_any, range_with_len}
 use Rattle.std.specs.Option.{option_map}
 use lib.Pointwise.{pointwise}
 use Rattle.mz_base.specs.Kana.{AreRules}
 use Rattle.mz_base.specs.Ordered.{in_order}
 use Rattle.mz_base.specs.declared.romaji.Rule.{Rule}
-use Rattle.mz_base.specs.declared.data.TheConstants.{MOST_IDS, MOST_WORDS, MOST_HOMOPHONES, MOST_COST, LEAST_COST}
+use Rattle.mz_base.specs.declared.data.TheConstants.{MOST_IDS, MOST_WORDS, MOST_HOMOPHONES, MOST_FIELD_BYTES, MOST_COST, LEAST_COST}
 use Rattle.mz_base.specs.declared.data.Class.{Class}
 use Rattle.mz_base.specs.declared.data.Class.TheVariants.{Hiragana, Katakana, Digit, Letter, Other}
 use Rattle.mz_base.specs.declared.data.WordRow.{WordRow}
@@ -163,6 +163,28 @@ pub record IsJoinSound (ids : ℕ) (row : JoinRow) : Type 0 where
 abbrev pub times_in : List WordRow → List ℕ → ℕ
 times_in rows reading = count_by (λ row. is_text reading row.reading) rows
 
+-- a text within the bytes of a field
+abbrev pub IsShort : List ℕ → Type 0
+IsShort text = length (encode_utf8_all text) ≤ MOST_FIELD_BYTES
+
+-- the texts of a rule and of a row of values
+pub record IsRuleShort (rule : Rule) : Type 0 where
+  pub input : IsShort rule.input
+  pub output : IsShort rule.output
+  pub pending : IsShort rule.pending
+
+pub record IsValueShort (row : ValueRow) : Type 0 where
+  pub reading : IsShort row.reading
+  pub value : IsShort row.value
+
+-- the texts of the files but the dictionaries
+pub record AreTextsShort (d : DataLists) : Type 0 where
+  pub features : All (λ (row : IdRow). IsShort row.feature) d.features
+  pub parts : All (λ (row : PosRow). IsShort row.name) d.pos
+  pub rules : All IsRuleShort d.rules
+  pub symbols : All IsValueShort d.symbols
+  pub kanji : All IsValueShort d.kanji
+
 -- a word row has a reading and a value, ids that there are, and a cost
 pub record IsWordSound (ids : ℕ) (row : WordRow) : Type 0 where
   pub read : 0 < length row.reading
@@ -170,6 +192,8 @@ pub record IsWordSound (ids : ℕ) (row : WordRow) : Type 0 where
   pub right : row.rid < ids
   pub cost : IsCost row.cost
   pub valued : 0 < length row.value
+  pub short_reading : IsShort row.reading
+  pub short_value : IsShort row.value
 
 -- an id that there is, and a cost
 pub record IsNode (ids : ℕ) (node : ℕ × ℤ) : Type 0 where
@@ -187,4 +211,5 @@ pub record AreDataSound (d : DataLists) : Type 0 where
   pub words : (i : ℕ) → i < length d.words → IsWordSound d.ids (word_at d i)
   pub homophones : (reading : List ℕ) → times_in d.words reading ≤ MOST_HOMOPHONES
   pub segments : (i : ℕ) → i < length d.joins → IsJoinSound d.ids (join_at d i)
+  pub texts : AreTextsShort d
   pub rules_sound : AreRules d.rules

@@ -1,5 +1,5 @@
 -- What an answer that is a value has gone through.
-use Rattle.std.proofs.Common.{◌≡◌, ℕ, Bool, true, cond, Option, Some, None, Result, Ok, Err, refl, inl, inr}
+use Rattle.std.proofs.Common.{◌≡◌, ℕ, Bool, true, false, cond, Option, Some, None, Result, Ok, Err, refl, inl, inr}
 use Rattle.std.specs.Option.{option_map}
 use Rattle.std.proofs.lemmas.Bool.{cases_Bool}
 use Rattle.mz_base.specs.Answers.{◌>>=◌}
@@ -35,3 +35,8 @@ if-Some test found b is =
 pub option_map-Some : {A B : Type 0} (change : A → B) (found : Option A) (b : B) → option_map change found ≡ Some b → (a : A) × (found ≡ Some a) × (change a ≡ b)
 option_map-Some change None b is = absurd cc
 option_map-Some change (Some a) b is = (a, refl, cc)
+
+-- a test decides between two answers
+pub if-made : {A E : Type 0} (P : A → Type 0) (test : Bool) (one other : Result A E) → ((more : A) → one ≡ Ok more → P more) → ((more : A) → other ≡ Ok more → P more) → (more : A) → cond test one other ≡ Ok more → P more
+if-made P true one other first second more is = first more is
+if-made P false one other first second more is = second more is

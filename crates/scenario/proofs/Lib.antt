@@ -1,5 +1,6 @@
 mod AnswerSteps
 mod ManifestSteps
 mod MemoryLaws
+mod NameLaws
 mod SetSteps
 mod SoundLaws

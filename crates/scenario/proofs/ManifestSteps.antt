@@ -1,13 +1,11 @@
 -- One line more of a manifest.
-use Rattle.std.proofs.Common.{◌≡◌, ℕ, ◌+◌, ◌<◌, ◌≤◌, List, Result, Err, Bor, length, get_or, drop, ap, ◌∙◌}
+use Rattle.std.proofs.Common.{◌≡◌, ℕ, ◌+◌, ◌<◌, ◌≤◌, List, Result, Bor, length, get_or, drop, ap, ◌∙◌}
 use Rattle.std.proofs.lemmas.List.{at_drop_more, at_drop_all}
 use Rattle.mz_base.specs.Answers.{◌>>=◌}
 use Rattle.mz_base.specs.Lines.{pointed}
-use Rattle.scenario.specs.ManifestAnswers.{Gives}
 use Rattle.scenario.specs.Manifests.{Told, with_line, finished, manifest_after}
 use Rattle.scenario.specs.declared.manifest.Manifest.{Manifest}
 use Rattle.scenario.specs.declared.manifest.ManifestError.{ManifestError}
-use Rattle.scenario.specs.declared.manifest.ManifestError.TheVariants.{Bad, TooLarge, NoMemory}
 
 module _ (told : Told) (lines : List (Bor (List ℕ))) (i : ℕ) where
   -- the manifest, where the line at i leaves this

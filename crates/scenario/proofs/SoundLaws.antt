@@ -1,5 +1,5 @@
 -- A manifest that reads is within its limits, and names only sets and users that it has.
-use Rattle.std.proofs.Common.{◌≡◌, ◌≢◌, ℕ, zero, suc, ◌+◌, ◌<◌, ◌≤◌, Bool, true, false, not, ◌&&◌, cond, eqb, nat_lt, nat_le, List, [], ◌∷◌, ◌++◌, Option, Some, None, Result, Ok, Err, length, length-append, append-nil, refl, subst, arith, rules, inl, inr}
+use Rattle.std.proofs.Common.{◌≡◌, ◌≢◌, ℕ, zero, suc, ◌+◌, ◌<◌, ◌≤◌, Bool, true, false, not, ◌&&◌, eqb, nat_lt, nat_le, List, [], ◌∷◌, ◌++◌, Option, Some, None, Ok, Err, length, length-append, append-nil, refl, sym, subst, arith, rules, inl, inr}
 use Rattle.std.specs.List.{All, filter, list_any, list_all, position, position_or_len, range_with_len}
 use Rattle.std.specs.Str.{chars}
 use Rattle.std.proofs.lemmas.Bool.{cases_Bool}
@@ -15,15 +15,14 @@ use Rattle.mz_base.specs.declared.fault.Role.TheVariants.{Dictionary, Romaji}
 use Rattle.scenario.specs.Entries.{name_of, file_of, file_from, dict_of, client_of, loaders_of, few_loaders, is_file, has_file, may_have, has_client}
 use Rattle.scenario.specs.Names.{is_name, is_path, number_among, role_of, same_role}
 use Rattle.scenario.specs.Manifests.{Told, nothing_told, or_bad, dicts_of, with_set, with_file, with_user, with_dict, with_client, with_loaders, with_certificates, with_word, with_fields, with_line, manifest_from, is_skipped, have_romaji, finished, manifest_after}
-use Rattle.scenario.specs.Sound.{IsOneOf, IsWithinLimits, IsSound}
+use Rattle.scenario.specs.Sound.{IsOneOf, IsNamed, IsWithinLimits, IsSound}
 use Rattle.scenario.specs.declared.manifest.ClientLine.{ClientLine}
 use Rattle.scenario.specs.declared.manifest.DictLine.{DictLine}
 use Rattle.scenario.specs.declared.manifest.FileLine.{FileLine}
 use Rattle.scenario.specs.declared.manifest.Manifest.{Manifest}
-use Rattle.scenario.specs.declared.manifest.ManifestError.{ManifestError}
 use Rattle.scenario.specs.declared.manifest.ManifestError.TheVariants.{Bad}
 use Rattle.scenario.specs.declared.manifest.TheConstants.{MOST_SETS, MOST_USERS, MOST_CLIENTS, MOST_DICTIONARIES, MOST_LOADERS}
-use Rattle.scenario.proofs.AnswerSteps.{after-Ok, or_bad-Ok, if-Ok, if-Some, option_map-Some}
+use Rattle.scenario.proofs.AnswerSteps.{after-Ok, or_bad-Ok, if-Ok, if-Some, if-made, option_map-Some}
 
 -- what the lines have told keeps the limits
 abbrev pub IsKept : Told → Type 0
@@ -280,11 +279,6 @@ certificates-IsKept number told more fields is kept =
       single = kept.single;
     })
 
--- a test decides between two answers
-if-made : (P : Told → Type 0) (test : Bool) (one other : Result Told ManifestError) → ((more : Told) → one ≡ Ok more → P more) → ((more : Told) → other ≡ Ok more → P more) → (more : Told) → cond test one other ≡ Ok more → P more
-if-made P true one other first second more is = first more is
-if-made P false one other first second more is = second more is
-
 word-IsKept : (number : ℕ) (told more : Told) (word : List ℕ) (fields : List (List ℕ)) → with_word number told word fields ≡ Ok more → IsKept told → IsKept more
 unfolding with_word
 word-IsKept number told more word fields is kept =
@@ -327,22 +321,23 @@ list_all-range passes first (suc count) number all low high =
     ]
 
 -- what was told is a manifest
-finished-IsSound : (number : ℕ) (told : Told) (manifest : Manifest) → finished number told ≡ Ok manifest → IsKept told → IsSound manifest
-finished-IsSound number told manifest is kept =
+finished-IsSound : (number : ℕ) (told : Told) (manifest : Manifest) → finished number told ≡ Ok manifest → IsKept told → IsNamed manifest → IsSound manifest
+finished-IsSound number told manifest is kept named =
     let whole = if-Ok (nat_lt 0 (length told.sets) && have_romaji told) (manifest_from told) manifest (Bad number) is in
     let typed : have_romaji told ≡ true = grind (arith, nat_tests, whole.0) in
     subst IsSound whole.1 (record {
+      named = subst IsNamed (sym whole.1) named;
       limits = kept;
       some_set = grind (arith, nat_tests, whole.0);
       romaji = λ set one. grind (arith, list_all-range (λ set. has_file told.files set Romaji) 1 (length told.sets) set typed one.first (omega (arith, one.last)));
     })
 
 -- line by line
-pub manifest_after-IsSound : (told : Told) (number : ℕ) (lines : List (List ℕ)) (manifest : Manifest) → manifest_after told number lines ≡ Ok manifest → IsKept told → IsSound manifest
-manifest_after-IsSound told number [] manifest is kept = finished-IsSound number told manifest is kept
-manifest_after-IsSound told number (line ∷ lines) manifest is kept =
+pub manifest_after-IsSound : (told : Told) (number : ℕ) (lines : List (List ℕ)) (manifest : Manifest) → manifest_after told number lines ≡ Ok manifest → IsKept told → IsNamed manifest → IsSound manifest
+manifest_after-IsSound told number [] manifest is kept named = finished-IsSound number told manifest is kept named
+manifest_after-IsSound told number (line ∷ lines) manifest is kept named =
     let read = after-Ok (with_line number told line) (λ more. manifest_after more (number + 1) lines) manifest is in
-    manifest_after-IsSound read.0 (number + 1) lines manifest read.2 (line-IsKept number told read.0 line read.1 kept)
+    manifest_after-IsSound read.0 (number + 1) lines manifest read.2 (line-IsKept number told read.0 line read.1 kept) named
 
 -- nothing told keeps the limits
 pub nothing_told-IsKept : IsKept nothing_told

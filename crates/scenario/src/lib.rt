@@ -11,7 +11,7 @@ mod names;
 #[cfg(test)]
 mod tests;
 
-pub use laws::{manifests_are_sound, manifests_need_no_memory};
+pub use laws::{limits_are, manifests_are_sound, manifests_need_no_memory};
 pub use manifest::{
     ClientLine, DictLine, FileLine, MOST_CLIENTS, MOST_DICTIONARIES, MOST_LOADERS, MOST_SETS,
     MOST_USERS, Manifest, ManifestError, read_manifest,
