@@ -14,6 +14,6 @@ mod writer;
 
 pub use bounds::read_bounds;
 pub use error::TextError;
-pub use laws::written_certificates_read;
+pub use laws::{limits_are, written_certificates_read};
 pub use reader::read;
 pub use writer::print;

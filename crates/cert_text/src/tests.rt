@@ -16,13 +16,11 @@ const CUT: &[u8] =
 fn again(alloc: Global, key_length: usize, bytes: &[u8]) -> Result<String, Fail>
     requires { key_length ≤ MOST_KEY }
 {
-    let mut text = String::new(alloc);
     match read(alloc, key_length, bytes) {
-        Ok(certificate) => print(&mut text, &certificate)?,
-        Err(TextError::Line(line)) => write!(text, "{line}")?,
-        Err(TextError::NoMemory) => write!(text, "memory")?,
+        Ok(certificate) => Ok(print(alloc, &certificate)?),
+        Err(TextError::Line(line)) => Ok(format!(in alloc; "{line}")?),
+        Err(TextError::NoMemory) => Ok(String::from_str(alloc, "memory")?),
     }
-    Ok(text)
 }
 
 #[test]
@@ -47,8 +45,7 @@ fn a_certificate_is_written(rt: HostRuntime) -> Result<(), Fail> {
         potentials: Seq::from_vec(potentials),
         total: 750,
     };
-    let mut text = String::new(alloc);
-    print(&mut text, &certificate)?;
+    let text = print(alloc, &certificate)?;
     assert_eq!(rt; text.as_bytes(), SHORT);
     Ok(())
 }

@@ -1,19 +1,21 @@
-ghost use Rattle.std.specs.Prelude.{◌≡◌, ◌++◌, map, codes, OnOk};
+ghost use Rattle.std.specs.Prelude.{◌≡◌, ◌++◌, map, codes, IfOk, OnOk};
 ghost use Rattle.std.specs.Fmt.{decimal, signed_decimal};
 ghost use Rattle.std.specs.String.{string_bytes};
 ghost use Rattle.cert_text.specs.Texts.{line_text, certificate_text};
 
 use mz_base::{Certificate, NoMemory};
+use std::alloc::Global;
 
-/// Adds the four lines of a certificate to a text.
-pub fn print(out: &mut String, certificate: &Certificate) -> Result<(), NoMemory>
-    ensures { OnOk result (string_bytes out.new ≡ string_bytes out.old ++ certificate_text certificate.now) }
+/// The four lines of a certificate.
+pub fn print(alloc: Global, certificate: &Certificate) -> Result<String, NoMemory>
+    ensures { IfOk result (λ text. string_bytes text ≡ certificate_text certificate.now) }
 {
-    print_bounds(out, certificate.bounds.as_slice())?;
-    print_path(out, certificate.path.as_slice())?;
-    print_potentials(out, certificate.potentials.as_slice())?;
-    write!(out, "total\t{}\n", certificate.total)?;
-    Ok(())
+    let mut text = String::new(alloc);
+    print_bounds(&mut text, certificate.bounds.as_slice())?;
+    print_path(&mut text, certificate.path.as_slice())?;
+    print_potentials(&mut text, certificate.potentials.as_slice())?;
+    write!(text, "total\t{}\n", certificate.total)?;
+    Ok(text)
 }
 
 fn print_bounds(out: &mut String, bounds: &[u16]) -> Result<(), NoMemory>
