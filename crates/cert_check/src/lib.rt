@@ -6,8 +6,6 @@
 mod cursor;
 mod edge;
 mod edges;
-#[cfg(test)]
-mod tests;
 mod verdict;
 mod walk;
 

@@ -1,4 +1,3 @@
 pub mod Ends
-pub mod ExampleUser
 pub mod Rows
 pub mod Runs

@@ -7,8 +7,6 @@ mod entries;
 mod made;
 mod run;
 mod sources;
-#[cfg(test)]
-mod tests;
 mod value;
 
 pub use made::build;

@@ -5,7 +5,5 @@
 mod arrivals;
 mod solver;
 mod table;
-#[cfg(test)]
-mod tests;
 
 pub use solver::solve;

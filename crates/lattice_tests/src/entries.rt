@@ -1,10 +1,10 @@
 ghost use Rattle.std.specs.Prelude.{◌≡◌, ◌≤◌, length, IfOk};
 ghost use Rattle.conversion_meaning.specs.Lattices.{IsKey, IsLatticeOf};
 ghost use Rattle.conversion_meaning.specs.Examples.{set};
-ghost use Rattle.lattice.specs.ExampleUser.{four_rows, kyou_row};
+ghost use Rattle.lattice_tests.specs.ExampleUser.{four_rows, kyou_row};
 
-use crate::{build, value_of};
 use example_set::{ExampleSet, KYOU, NOUN, SUPPRESSED, TODAY};
+use lattice::{build, value_of};
 use mz_base::{Lattice, MOST_KEY, NoMemory, NoUserWords, Text, UserRow, UserWords};
 use std::alloc::Global;
 use std::test::Fail;
@@ -27,7 +27,7 @@ struct FourRows {
 
 impl UserWords for FourRows {
     ghost use Rattle.std.proofs.Common.{lit≤};
-    ghost use Rattle.lattice.specs.ExampleUser.{four_rows};
+    ghost use Rattle.lattice_tests.specs.ExampleUser.{four_rows};
 
     ghost rows = { λ _. four_rows };
 
@@ -40,6 +40,11 @@ impl UserWords for FourRows {
         } else {
             &[]
         }
+    }
+
+    #[tactic(auto, unfolding(mz_base::specs::Users::longest_reading))]
+    fn longest_reading(&self) -> usize {
+        KYOU.len()
     }
 
     fn row(&self, place: u32) -> &UserRow {

@@ -1,4 +1,4 @@
-use crate::check;
+use cert_check::check;
 use example_set::{ExampleSet, kyouha_lattice};
 use mz_base::{Certificate, NoMemory, Seq, Span};
 use std::alloc::Global;

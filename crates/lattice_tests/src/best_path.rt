@@ -2,11 +2,11 @@ ghost use Rattle.std.specs.Prelude.{◌≤◌, ◌≤ℤ◌, neg_ℤ, pos, IfOk}
 ghost use Rattle.conversion_meaning.specs.Lattices.{IsWellFormed};
 ghost use Rattle.conversion_meaning.specs.Examples.{set};
 
-use crate::solve;
 use example_set::{ExampleSet, HA, KYOU, KYOUHA, Row, kyouha_lattice, lattice_of};
 use mz_base::{DataSet, Entry, Lattice, NoMemory, Span};
 use std::alloc::Global;
 use std::test::Fail;
+use viterbi::solve;
 
 // The lattice of きょうは with a bound after き.
 const CUT: [Row; 6] = [

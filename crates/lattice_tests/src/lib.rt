@@ -1,0 +1,10 @@
+//! The tests of the crates of one lattice: its entries, the best path, certificates. They share the small data set of
+//! `example_set`. Nothing else stands here.
+#![tactic(auto)]
+
+#[cfg(test)]
+mod best_path;
+#[cfg(test)]
+mod certificates;
+#[cfg(test)]
+mod entries;
