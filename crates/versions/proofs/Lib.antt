@@ -1,0 +1,5 @@
+pub mod Adding
+pub mod Histories
+pub mod Longer
+pub mod Prefixes
+pub mod Rules
