@@ -17,3 +17,6 @@ pub use making::{RegistryError, registry};
 pub use publisher::Publisher;
 pub use reader::Reader;
 pub use receipt::Receipt;
+
+#[cfg(test)]
+mod tests;
