@@ -39,6 +39,10 @@ module _ {T E : Type 0} where
   entries_of [] = []
   entries_of (version ∷ rest) = option_to_list version.entry ++ entries_of rest
 
+  -- p after one operation more
+  abbrev pub after_operation : Prefix T E → T → E → Prefix T E
+  after_operation p value entry = record p { log = p.log ++ installed value entry ∷ [] }
+
   -- q is of p's registry, and its history begins p's
   abbrev pub Begins : Prefix T E → Prefix T E → Type 0
   Begins q p = (q.registry ≡ p.registry) × IsPrefix q.log p.log

@@ -1,8 +1,8 @@
 //! What one thread knows of a registry's history.
-ghost use Rattle.std.specs.Prelude.{◌≡◌, ◌+◌, ◌<◌, ◌≤◌, [], ◌∷◌, ◌++◌, length, MatchBool};
+ghost use Rattle.std.specs.Prelude.{◌≡◌, ◌+◌, ◌<◌, ◌≤◌, [], ◌∷◌, length, MatchBool};
 ghost use Rattle.std.specs.Arc.{arc_value};
 ghost use Rattle.versions.specs.Books.{head_of};
-ghost use Rattle.versions.specs.Histories.{Begins, IsPlace, started, installed};
+ghost use Rattle.versions.specs.Histories.{after_operation, Begins, IsPlace, started};
 
 use crate::history::Version;
 use logbook::{Gain, Offer, Opening, Plain, Play, Rule, Seen, Start, Word};
@@ -145,7 +145,7 @@ impl<T, E> Known<T, E> {
     pub fn add(&mut self, head: &Head<T, E>, value: &Arc<T>, entry: &E) -> bool
         requires { head.now ≡ head_of self.old.registry }
         ensures { MatchBool result
-            (self.new ≡ record self.old { log = self.old.log ++ installed (arc_value value.now) entry.now ∷ [] })
+            (self.new ≡ after_operation self.old (arc_value value.now) entry.now)
             (self.new ≡ self.old) }
     {
         let place = self.place;

@@ -1,7 +1,7 @@
-ghost use Rattle.std.specs.Prelude.{◌≡◌, [], ◌∷◌, ◌++◌, length, vec_len, IfOk, OnOk, IfErr, OnErr};
+ghost use Rattle.std.specs.Prelude.{◌≡◌, [], ◌∷◌, length, vec_len, IfOk, OnOk, IfErr, OnErr};
 ghost use Rattle.std.specs.Arc.{arc_value};
 ghost use Rattle.versions.specs.Books.{head_of};
-ghost use Rattle.versions.specs.Histories.{entries_of, installed, started, Begins, IsPlace};
+ghost use Rattle.versions.specs.Histories.{after_operation, entries_of, started, Begins, IsPlace};
 
 use crate::known::{Head, Known};
 use crate::receipt::Receipt;
@@ -94,7 +94,7 @@ impl<T: Drop, E: Drop> Publisher<T, E> {
         value: Arc<T>,
         entry: E,
     ) -> Result<Receipt<T, E>, (Arc<T>, E, NoMemory)>
-        ensures ok { OnOk result (self.new ≡ record self.old { log = self.old.log ++ installed (arc_value value) entry ∷ [] }) }
+        ensures ok { OnOk result (self.new ≡ after_operation self.old (arc_value value) entry) }
         ensures receipt { IfOk result (λ receipt. receipt ≡ self.new) }
         ensures err { OnErr result (self.new ≡ self.old) }
         ensures back { IfErr result (λ back. (back.0 ≡ value) × (back.1 ≡ entry)) }
