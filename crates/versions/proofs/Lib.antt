@@ -3,3 +3,4 @@ pub mod Histories
 pub mod Longer
 pub mod Prefixes
 pub mod Rules
+mod Worked

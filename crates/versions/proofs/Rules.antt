@@ -6,22 +6,13 @@ use Rattle.crossbeam_utils.specs.Register.{Admits, TurnsAt, Forks, Merges}
 use Rattle.atomic_table.proofs.Lists.{at_set, at_snoc}
 use Rattle.versions.specs.Histories.{Prefix, Begins}
 use Rattle.versions.specs.Seats.{Agrees, AllAgree}
-use Rattle.versions.proofs.Prefixes.{prefix_self, prefix_trans}
+use Rattle.versions.proofs.Histories.{Begins-self, Begins-trans}
 
 module _ {T E : Type 0} where
-  pub begins_self : (p : Prefix T E) → Begins p p
-  begins_self p = (refl, prefix_self p.log)
-
-  pub begins_same : (p q : Prefix T E) → p ≡ q → Begins p q
-  begins_same p q same = subst (λ r. Begins p r) same (begins_self p)
-
-  pub begins_trans : (p q r : Prefix T E) → Begins p q → Begins q r → Begins p r
-  begins_trans p q r a b = (a.0 ∙ b.0, prefix_trans p.log q.log r.log a.1 b.1)
-
   -- what a seat knows begins all that shows no less
   pub agrees_more : (view : Option (Prefix T E)) (p q : Prefix T E) → Begins p q → Agrees view p → Agrees view q
   agrees_more None p q more h = tt
-  agrees_more (Some known) p q more h = begins_trans known p q h more
+  agrees_more (Some known) p q more h = Begins-trans known p q h more
 
   -- one view may become another that agrees
   agree_set : (shown : Prefix T E) (views : List (Option (Prefix T E))) (seat : ℕ) (view : Option (Prefix T E)) → AllAgree shown views → Agrees view shown → AllAgree shown (set views seat view)
@@ -44,7 +35,7 @@ module _ {T E X : Type 0} (known : X → Prefix T E) where
   pub shows_no_less : (seat : ℕ) (view : Option (Prefix T E)) (x y : X) → Begins (known x) (known y) → TurnsAt Rule seat view x y SeesIt
   shows_no_less seat view x y more views h at = (
     Some (known y),
-    agree_set (known y) views seat (Some (known y)) (λ j u e. agrees_more u (known x) (known y) more (h j u e)) (begins_self (known y)),
+    agree_set (known y) views seat (Some (known y)) (λ j u e. agrees_more u (known x) (known y) more (h j u e)) (Begins-self (known y)),
     (h seat view at, refl),
   )
 

@@ -1,7 +1,8 @@
 use Rattle.std.proofs.Common.{◌≡◌, sym, ap, subst, ◌∙◌, drop, Some}
 use Rattle.left_right.specs.Sides.{view as seat_view}
 use Rattle.versions.specs.Histories.{Begins}
-use Rattle.versions.proofs.Rules.{begins_same, publishes, last_shown}
+use Rattle.versions.proofs.Histories.{Begins-same}
+use Rattle.versions.proofs.Rules.{publishes, last_shown}
 use Rattle.versions.proofs.writer.install.Goals as goal
 
 pub publish_as-copies-requires : goal.publish_as-copies-requires
@@ -18,7 +19,7 @@ shown_is g c =
     last_shown (λ s. s.known) now.desk.shown.value.known (drop c.args.copies.behind c.args.copies.log.items) (drop now.behind now.log.items) c.args.operation c.in-Ok.ensures.pending _ values.0
 
 pub returns-in-Ok-shown-clause-begins : goal.returns-in-Ok-shown-clause-begins
-returns-in-Ok-shown-clause-begins g c = begins_same _ _ (shown_is g c)
+returns-in-Ok-shown-clause-begins g c = Begins-same _ _ (shown_is g c)
 
 pub returns-in-Ok-shown-clause-shown : goal.returns-in-Ok-shown-clause-shown
 returns-in-Ok-shown-clause-shown g c = shown_is g c
