@@ -1,8 +1,9 @@
 -- What callers cite of histories and their prefixes.
 use Rattle.std.proofs.Common.{◌≡◌, ℕ, ◌+◌, ◌≤◌, List, [], ◌∷◌, ◌++◌, length, Some, option_to_list, refl, sym, ap, subst, ◌∙◌, arith, append_assoc, length-append}
+use Rattle.logbook.specs.Pages.{Book}
 use Rattle.versions.specs.declared.history.Version.{Version}
 use Rattle.versions.specs.Histories.{Prefix, latest, entries_of, installed, after_operation, Begins, IsPlace}
-use Rattle.versions.proofs.Prefixes.{prefix_self, prefix_trans, prefix_more, prefix_shorter}
+use Rattle.versions.proofs.Prefixes.{prefix_self, prefix_trans, prefix_more, prefix_shorter, prefix_whole}
 
 module _ {T E : Type 0} where
   -- a history with one version more
@@ -49,3 +50,11 @@ module _ {T E : Type 0} where
   -- what begins a history begins it after one operation more
   pub Begins-after : (p whole : Prefix T E) (value : T) (entry : E) → Begins p whole → Begins p (after_operation whole value entry)
   Begins-after p whole value entry begins = (begins.0, prefix_trans p.log whole.log (whole.log ++ installed value entry ∷ []) begins.1 (prefix_more whole.log (installed value entry ∷ [])))
+
+  -- a prefix that is as long as the whole is the whole
+  pub Begins-whole : (p q : Prefix T E) → Begins p q → length q.log ≤ length p.log → p ≡ q
+  Begins-whole p q begins le =
+      let logs = prefix_whole p.log q.log begins.1 le in
+      let here : Book → Prefix T E = λ registry. record { registry = registry; log = p.log } in
+      let there : List (Version T E) → Prefix T E = λ log. record { registry = q.registry; log = log } in
+      ap here begins.0 ∙ ap there logs

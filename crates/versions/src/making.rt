@@ -22,13 +22,17 @@ pub enum RegistryError {
 }
 
 impl From<NoMemory> for RegistryError {
-    fn from(_error: NoMemory) -> RegistryError {
+    fn from(_error: NoMemory) -> RegistryError
+        ensures { result ≡ RegistryError.NoMemory }
+    {
         RegistryError::NoMemory
     }
 }
 
 impl From<AllocError> for RegistryError {
-    fn from(_error: AllocError) -> RegistryError {
+    fn from(_error: AllocError) -> RegistryError
+        ensures { result ≡ RegistryError.NoMemory }
+    {
         RegistryError::NoMemory
     }
 }

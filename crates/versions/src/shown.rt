@@ -1,5 +1,5 @@
 //! What a registry shows, and the rule over it: what each seat knows is a prefix of what is shown.
-ghost use Rattle.std.specs.Prelude.{◌≡◌, Some, IfOk, IfSome};
+ghost use Rattle.std.specs.Prelude.{◌≡◌, Some, IfOk, MatchOption};
 ghost use Rattle.std.specs.Coded.{Coded-set, coded_option};
 ghost use Rattle.std.specs.Arc.{arc_value};
 ghost use Rattle.versions.specs.Histories.{latest, Begins, IsPlace};
@@ -49,7 +49,9 @@ impl<T, E> Shown<T, E> {
     /// A copy of the other, where it has more operations.
     pub fn newer(&self, other: &Shown<T, E>) -> Result<Option<Shown<T, E>>, NoMemory>
         requires { other.now.known.registry ≡ self.now.known.registry }
-        ensures { IfOk result (λ news. IfSome news (λ shown. (shown.known ≡ other.now.known) × Begins self.now.known shown.known)) }
+        ensures { IfOk result (λ news. MatchOption news
+            (Begins other.now.known self.now.known)
+            (λ shown. (shown.known ≡ other.now.known) × Begins self.now.known shown.known)) }
     {
         if !other.known.is_longer_than(&self.known) {
             return Ok(None);
