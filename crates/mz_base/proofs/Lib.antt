@@ -1,4 +1,5 @@
 pub mod AnswerLemmas
+pub mod ByNameLemmas
 pub mod FoldLemmas
 pub mod Found
 pub mod HitLemmas
@@ -9,5 +10,6 @@ pub mod LineByLine
 pub mod NumberLemmas
 pub mod OrderLemmas
 pub mod RowFacts
+pub mod SortLemmas
 pub mod Turns
 pub mod Waiting
