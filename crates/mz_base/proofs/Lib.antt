@@ -1,4 +1,5 @@
 pub mod AnswerLemmas
+pub mod ByNameLemmas
 pub mod FoldLemmas
 pub mod Found
 pub mod HitLemmas
@@ -10,5 +11,6 @@ pub mod NumberLemmas
 pub mod OrderLemmas
 pub mod RowFacts
 pub mod TextFields
+pub mod SortLemmas
 pub mod Turns
 pub mod Waiting

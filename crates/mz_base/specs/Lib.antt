@@ -1,4 +1,5 @@
 pub mod Answers
+pub mod ByName
 pub mod Classes
 pub mod Data
 pub mod Faults

@@ -1,11 +1,15 @@
-//! What follows from the definitions of specs/Kana.antt, Folds.antt, Rows.antt and Latest.antt, for all rules, texts and
-//! files.
+//! What follows from the definitions of specs/Kana.antt, Folds.antt, Rows.antt, Latest.antt, Ordered.antt and
+//! ByName.antt, for all rules, texts and files.
 //! A caller of these learns them; nothing runs.
 
 ghost use Rattle.std.specs.Prelude.{◌≡◌, ◌↔◌, ℕ, ◌<◌, ◌≤◌, IsTrue, true, false, Bool, not, List, [], ◌∷◌, ◌++◌, Some, None, filter, length};
+ghost use Rattle.std.specs.Cmp.{IsStrictWeakOrder};
 ghost use Rattle.std.specs.List.{Contains};
+ghost use Rattle.std.specs.List.Sorted.{IsPermutation, IsSortedBy, IsStableBy};
+ghost use Rattle.mz_base.specs.ByName.{RiseByName, latest_by_name, same_name};
 ghost use Rattle.mz_base.specs.Folds.{katakana, hiragana, full_width, half_width};
 ghost use Rattle.mz_base.specs.Latest.{latest};
+ghost use Rattle.mz_base.specs.Ordered.{in_order};
 ghost use Rattle.mz_base.specs.Kana.{AreRules, fits, longest, turn, after_output, waits, kana, finish};
 ghost use Rattle.mz_base.specs.declared.romaji.Rule.{Rule};
 
@@ -76,4 +80,18 @@ pub fn later_row_holds<T>()
     ensures none { (same : T → T → Bool) → latest same [] ≡ [] }
     ensures further { (same : T → T → Bool) (rows : List T) (row : T) →
         latest same (rows ++ row ∷ []) ≡ filter (λ other. not (same other row)) (latest same rows) ++ row ∷ [] }
+{}
+
+/// Items in order are the same items, and none comes before an earlier one. Those of which neither comes before the
+/// other stand as they stood.
+pub fn order_holds<T>()
+    ensures same { (before : T → T → Bool) (items : List T) → IsPermutation items (in_order before items) }
+    ensures sorted { (before : T → T → Bool) (items : List T) → IsStrictWeakOrder before → IsSortedBy before (in_order before items) }
+    ensures stable { (before : T → T → Bool) (items : List T) → IsStrictWeakOrder before → IsStableBy before items (in_order before items) }
+{}
+
+/// Rows in the order of their names are those that no later row of their name repeats, and the names rise.
+pub fn names_rise<T>()
+    ensures same { (name : T → List ℕ) (rows : List T) → IsPermutation (latest (same_name name) rows) (latest_by_name name rows) }
+    ensures rise { (name : T → List ℕ) (rows : List T) → RiseByName name (latest_by_name name rows) }
 {}

@@ -1,6 +1,7 @@
-ghost use Rattle.std.specs.Prelude.{◌≡◌, IfOk, List, ℕ};
-ghost use Rattle.std.specs.Str.{bytes_eq};
+ghost use Rattle.std.specs.Prelude.{◌≡◌, IfOk, OnOk, List, ℕ};
+ghost use Rattle.mz_base.specs.ByName.{latest_by_name, name_before, same_name};
 ghost use Rattle.mz_base.specs.Latest.{latest};
+ghost use Rattle.mz_base.specs.Ordered.{in_order};
 
 use crate::{NoMemory, PosRow, Rule};
 use std::alloc::Global;
@@ -30,9 +31,18 @@ impl Named for PosRow {
     }
 }
 
+/// The rows whose name no later row has, in the order of their names.
+pub fn latest_by_name<T: Named + Drop>(alloc: Global, rows: Vec<T>) -> Result<Vec<T>, NoMemory>
+    ensures { IfOk result (λ kept. kept.items ≡ latest_by_name T.name rows.items) }
+{
+    let mut kept = keep_latest(alloc, rows)?;
+    sort_by_name(&mut kept)?;
+    Ok(kept)
+}
+
 /// The rows whose name no later row has, in their order.
 pub fn keep_latest<T: Named + Drop>(alloc: Global, rows: Vec<T>) -> Result<Vec<T>, NoMemory>
-    ensures { IfOk result (λ kept. kept.items ≡ latest (λ row other. bytes_eq (T.name row) (T.name other)) rows.items) }
+    ensures { IfOk result (λ kept. kept.items ≡ latest (same_name T.name) rows.items) }
 {
     let mut kept = Vec::new(alloc);
     let mut seen = HashSet::new(alloc);
@@ -46,4 +56,12 @@ pub fn keep_latest<T: Named + Drop>(alloc: Global, rows: Vec<T>) -> Result<Vec<T
     }
     kept.reverse();
     Ok(kept)
+}
+
+/// Puts the rows into the order of their names.
+fn sort_by_name<T: Named>(rows: &mut Vec<T>) -> Result<(), NoMemory>
+    ensures { OnOk result (rows.new.items ≡ in_order (name_before T.name) rows.old.items) }
+{
+    rows.sort_by(|row, other| row.name().cmp(other.name()))?;
+    Ok(())
 }

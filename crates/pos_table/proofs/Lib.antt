@@ -1,4 +1,5 @@
 pub mod GroupLemmas
+pub mod IdLemmas
 pub mod IdSlots
 pub mod JoinLemmas
 pub mod LatestLemmas

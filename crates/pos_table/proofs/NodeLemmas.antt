@@ -1,5 +1,5 @@
 -- The nodes of a file of unknown words are within their limits.
-use Rattle.std.proofs.Common.{◌≡◌, ℕ, suc, ◌<◌, Bool, true, false, cond, eqb, nat_le, List, [], ◌∷◌, Option, Some, None, Result, Ok, Err, length, option_to_list, unwrap_or, refl, arith, inl, inr, subst, lit≤}
+use Rattle.std.proofs.Common.{◌≡◌, ℕ, suc, ◌<◌, Bool, cond, eqb, nat_le, List, [], ◌∷◌, Option, Some, None, Result, Ok, Err, length, option_to_list, unwrap_or, refl, arith, inl, inr, subst}
 use Rattle.std.specs.List.{All, AllByRecursion, find, list_any}
 use Rattle.std.specs.Option.{option_map}
 use Rattle.std.specs.Str.{is_utf8}
@@ -7,7 +7,7 @@ use Rattle.std.proofs.lemmas.Bool.{cases_Bool}
 use Rattle.std.proofs.lemmas.Bool.Decides.{nat_tests}
 use Rattle.std.proofs.lemmas.List.Elements.{All-cons, All-nil}
 use Rattle.mz_base.specs.Answers.{◌>>=◌}
-use Rattle.mz_base.specs.Data.{IsNode, IsCost}
+use Rattle.mz_base.specs.Data.{IsNode}
 use Rattle.mz_base.specs.Latest.{latest}
 use Rattle.mz_base.specs.Lines.{fields_of, lines_of}
 use Rattle.mz_base.specs.Rows.{rows_after}

@@ -20,21 +20,10 @@ use Rattle.mz_base.specs.declared.fault.FaultKind.{FaultKind}
 use Rattle.mz_base.specs.declared.fault.FaultKind.TheVariants.{NotUtf8, Empty, Range, Limit}
 use Rattle.mz_base.proofs.LimitLemmas.{IsCost-from_test}
 use Rattle.mz_base.proofs.RowFacts.{rows_after-All}
+use Rattle.pos_table.proofs.IdLemmas.{found-passes}
 use Rattle.pos_table.specs.Ids.{by_id, has_id, id_row, id_rows, same_id}
 use Rattle.pos_table.specs.Nodes.{AreIds, ArePosNodes}
 use Rattle.pos_table.specs.UserPos.{PosFields, featured, fields_pos, id_of, pos_fields, pos_in, pos_row, pos_rows, priced, same_pos}
-
--- what is found has what is looked for
-found-passes : {A : Type 0} (p : A → Bool) (xs : List A) (x : A) → find p xs ≡ Some x → p x ≡ true
-found-passes p [] x found = absurd cc
-found-passes p (first ∷ xs) x found =
-    elim (cases_Bool (p first)) [
-      | inl is ↦
-          let here : Some first ≡ Some x = rw is at found in
-          let same : first ≡ x = cc in
-          subst (λ x. p x ≡ true) same is
-      | inr other ↦ found-passes p xs x (rw other at found)
-    ]
 
 -- what is found is one of them
 found-has : {A : Type 0} (P : A → Type 0) (p : A → Bool) (xs : List A) (x : A) → AllByRecursion P xs → find p xs ≡ Some x → P x

@@ -1,6 +1,6 @@
 -- The rows of an id file: docs/FORMATS.md, "Ids".
-use Rattle.std.specs.Prelude.{ℕ, ◌==◌, Bool, not, List, [], Option, Some, None, Result, Ok, Err, if◌then◌else◌, length, nat_le, nat_lt, find}
-use Rattle.std.specs.List.{before_first, after_first, filter_map, position_or_len, range_with_len}
+use Rattle.std.specs.Prelude.{ℕ, ◌<◌, ◌==◌, Bool, not, List, [], Option, Some, None, Result, Ok, Err, if◌then◌else◌, length, nat_le, nat_lt, find}
+use Rattle.std.specs.List.{AllPairs, before_first, after_first, filter_map, position_or_len, range_with_len}
 use Rattle.std.specs.Str.{chars, is_utf8}
 use Rattle.mz_base.specs.Answers.{◌>>=◌}
 use Rattle.mz_base.specs.Latest.{latest}
@@ -61,3 +61,7 @@ by_id ids rows = filter_map (λ id. find (has_id id) (latest same_id rows)) (ran
 -- the rows of a file, or its first fault
 abbrev pub id_rows : ℕ → List ℕ → Result (List IdRow) FaultKind
 id_rows ids bytes = rows_after (λ _. id_row ids) [] 1 (lines_of bytes) >>= (λ rows. Ok (by_id ids rows))
+
+-- the ids rise: each is less than all later ones
+abbrev pub RiseById : List IdRow → Type 0
+RiseById = AllPairs (λ row later. row.id < later.id)

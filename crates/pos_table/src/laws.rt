@@ -1,15 +1,15 @@
-ghost use Rattle.std.specs.Prelude.{◌≡◌, ◌<◌, ℕ, List, Ok};
-ghost use Rattle.std.specs.List.{All};
+ghost use Rattle.std.specs.Prelude.{◌≡◌, ◌≢◌, ◌↔◌, ◌<◌, ◌≤◌, ℕ, List, Some, None, Ok};
+ghost use Rattle.std.specs.List.{All, Contains};
 ghost use Rattle.mz_base.specs.Data.{IsJoinSound};
 ghost use Rattle.mz_base.specs.declared.data.IdRow.{IdRow};
 ghost use Rattle.mz_base.specs.declared.data.JoinRow.{JoinRow};
 ghost use Rattle.mz_base.specs.declared.data.PosRow.{PosRow};
 ghost use Rattle.mz_base.specs.declared.data.UnknownRow.{UnknownRow};
 ghost use Rattle.pos_table.specs.Classes.{unknown_rows};
-ghost use Rattle.pos_table.specs.Ids.{id_rows};
+ghost use Rattle.pos_table.specs.Ids.{RiseById, id_rows};
 ghost use Rattle.pos_table.specs.Joins.{join_rows};
 ghost use Rattle.pos_table.specs.Nodes.{AreIds, AreNodes, ArePosNodes};
-ghost use Rattle.pos_table.specs.UserPos.{pos_rows};
+ghost use Rattle.pos_table.specs.UserPos.{id_of, pos_rows};
 
 /// The rows that a file of unknown words gives are within their limits.
 pub fn unknown_rows_are_nodes()
@@ -19,6 +19,19 @@ pub fn unknown_rows_are_nodes()
 /// The ids that an id file gives a feature are there.
 pub fn id_rows_are_ids()
     ensures { (ids : ℕ) (bytes : List ℕ) (rows : List IdRow) → id_rows ids bytes ≡ Ok rows → AreIds ids rows }
+{}
+
+/// The rows that an id file gives rise by their ids.
+pub fn id_rows_rise()
+    ensures { (ids : ℕ) (bytes : List ℕ) (rows : List IdRow) → id_rows ids bytes ≡ Ok rows → RiseById rows }
+{}
+
+/// The id of a feature is the least of the ids that have exactly this feature. There is none exactly where no id has it.
+pub fn id_of_is_least()
+    ensures one_of { (rows : List IdRow) (feature : List ℕ) (id : ℕ) → id_of rows feature ≡ Some id → Contains rows (record { id = id; feature = feature }) }
+    ensures least { (rows : List IdRow) (feature : List ℕ) (id : ℕ) (row : IdRow) → RiseById rows → id_of rows feature ≡ Some id →
+        Contains rows row → row.feature ≡ feature → id ≤ row.id }
+    ensures none { (rows : List IdRow) (feature : List ℕ) → (id_of rows feature ≡ None) ↔ ((row : IdRow) → Contains rows row → row.feature ≢ feature) }
 {}
 
 /// The rows that a file of parts of speech gives are within their limits.

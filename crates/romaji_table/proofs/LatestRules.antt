@@ -1,27 +1,21 @@
 -- The rules of a file are the rules of a table.
-use Rattle.std.proofs.Common.{◌≡◌, ◌≢◌, ℕ, ◌==◌, ◌<◌, true, false, Bool, List, [], ◌∷◌, Option, Some, None, Ok, Err, length, sym, subst, inl, inr, arith, nat_le, option_to_list}
+use Rattle.std.proofs.Common.{◌≡◌, ◌≢◌, ℕ, ◌==◌, ◌<◌, true, false, List, [], ◌∷◌, Option, Some, None, Ok, Err, length, sym, subst, inl, inr, arith, nat_le, option_to_list}
 use Rattle.std.specs.List.{All, AllByRecursion, list_any}
 use Rattle.std.specs.Str.{chars, is_utf8}
 use Rattle.std.proofs.lemmas.Bool.{cases_Bool}
 use Rattle.std.proofs.lemmas.Bool.Decides.{nat_tests}
 use Rattle.std.proofs.lemmas.List.Elements.{All-cons, All-nil}
 use Rattle.std.proofs.lemmas.Slice.Eq.{bytes_eq-Decides}
+use Rattle.mz_base.specs.ByName.{name_before}
 use Rattle.mz_base.specs.Kana.{AreDistinct, AreRules, IsRule}
 use Rattle.mz_base.specs.Latest.{latest}
 use Rattle.mz_base.specs.Lines.{fields_of}
 use Rattle.mz_base.specs.declared.romaji.Rule.{Rule}
 use Rattle.mz_base.specs.declared.fault.FaultKind.TheVariants.{NotUtf8, Empty, LongPending, Limit}
-use Rattle.romaji_table.specs.Repeats.{same_input}
+use Rattle.mz_base.proofs.ByNameLemmas.{latest-All}
+use Rattle.mz_base.proofs.SortLemmas.{AllTwo, in_order-All, in_order-AllTwo}
+use Rattle.romaji_table.specs.Inputs.{input_of, latest_by_input, same_input}
 use Rattle.romaji_table.specs.Rows.{RowFields, fields_row, is_skipped, passes_limit, romaji_row, row_fields, rule_of}
-
--- what each row has, each that is kept has
-pub latest-All : {A : Type 0} (P : A → Type 0) (same : A → A → Bool) (rows : List A) → AllByRecursion P rows → AllByRecursion P (latest same rows)
-latest-All P same [] all = tt
-latest-All P same (row ∷ rows) all =
-    elim (cases_Bool (list_any (same row) rows)) [
-      | inl repeats ↦ rw repeats (latest-All P same rows all.1)
-      | inr last ↦ rw last (all.0, latest-All P same rows all.1)
-    ]
 
 -- a rule that none repeats differs from each in its input
 differs : (rule : Rule) (rules : List Rule) → list_any (same_input rule) rules ≡ false → AllByRecursion (λ other. other.input ≢ rule.input) rules
@@ -44,10 +38,23 @@ latest-AreDistinct (rule ∷ rules) =
       | inr last ↦ rw last (latest-All (λ other. other.input ≢ rule.input) same_input rules (differs rule rules last), latest-AreDistinct rules)
     ]
 
-pub latest-AreRules : (rules : List Rule) → AllByRecursion IsRule rules → AreRules (latest same_input rules)
+-- the inputs differ
+abbrev Differ : Rule → Rule → Type 0
+Differ rule other = other.input ≢ rule.input
+
+two-from : (rules : List Rule) → AreDistinct rules → AllTwo (name_before input_of) Differ rules
+two-from [] distinct = tt
+two-from (rule ∷ rules) distinct = (distinct.0, two-from rules distinct.1)
+
+distinct-from : (rules : List Rule) → AllTwo (name_before input_of) Differ rules → AreDistinct rules
+distinct-from [] two = tt
+distinct-from (rule ∷ rules) two = (two.0, distinct-from rules two.1)
+
+-- the rules that are kept are those of a table
+pub latest-AreRules : (rules : List Rule) → AllByRecursion IsRule rules → AreRules (latest_by_input rules)
 latest-AreRules rules each = record {
-  each = latest-All IsRule same_input rules each;
-  distinct = latest-AreDistinct rules;
+  each = in_order-All (name_before input_of) IsRule (latest same_input rules) (latest-All IsRule same_input rules each);
+  distinct = distinct-from (latest_by_input rules) (in_order-AllTwo (name_before input_of) Differ (λ rule other differ same. differ (sym same)) (latest same_input rules) (two-from (latest same_input rules) (latest-AreDistinct rules)));
 }
 
 -- a row whose pending text is shorter than its input is a rule

@@ -1,4 +1,4 @@
 pub mod Columns
 pub mod Index
-pub mod Repeats
+pub mod Inputs
 pub mod Rows

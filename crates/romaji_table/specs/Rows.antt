@@ -3,7 +3,6 @@ use Rattle.std.specs.Prelude.{ℕ, ◌==◌, ◌&&◌, ◌||◌, Bool, true, not
 use Rattle.std.specs.List.{list_any}
 use Rattle.std.specs.Str.{chars, is_utf8}
 use Rattle.mz_base.specs.Answers.{◌>>=◌}
-use Rattle.mz_base.specs.Latest.{latest}
 use Rattle.mz_base.specs.Limits.{is_long}
 use Rattle.mz_base.specs.Lines.{lines_of, fields_of}
 use Rattle.mz_base.specs.Rows.{rows_after}
@@ -11,7 +10,7 @@ use Rattle.mz_base.specs.declared.data.TheConstants.{MOST_ROWS}
 use Rattle.mz_base.specs.declared.romaji.Rule.{Rule}
 use Rattle.mz_base.specs.declared.fault.FaultKind.{FaultKind}
 use Rattle.mz_base.specs.declared.fault.FaultKind.TheVariants.{NotUtf8, Fields, Empty, LongPending, Limit}
-use Rattle.romaji_table.specs.Repeats.{same_input}
+use Rattle.romaji_table.specs.Inputs.{latest_by_input}
 
 -- an empty line, and a line that begins with # and has no tab, give no row
 abbrev pub is_skipped : List ℕ → Bool
@@ -55,7 +54,10 @@ romaji_row rows number line =
     if is_skipped line then Ok None else
     fields_row (length rows) number (row_fields (fields_of line))
 
--- the rules of a file, of repeated inputs the last; or the first fault
+-- the row of each line of a file that has one, or the first fault
+abbrev pub line_rules : List ℕ → Result (List Rule) FaultKind
+line_rules bytes = rows_after romaji_row [] 1 (lines_of bytes)
+
+-- the rules of a file, of one input the last, in the order of the inputs; or the first fault
 abbrev pub romaji_rows : List ℕ → Result (List Rule) FaultKind
-romaji_rows bytes =
-    rows_after romaji_row [] 1 (lines_of bytes) >>= (λ rows. Ok (latest same_input rows))
+romaji_rows bytes = line_rules bytes >>= (λ rows. Ok (latest_by_input rows))

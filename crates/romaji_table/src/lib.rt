@@ -3,12 +3,12 @@
 #![tactic(auto)]
 
 mod index;
-mod law;
+mod laws;
 mod reader;
 mod row;
 mod table;
 
-pub use law::{law_of_repeats, rows_are_rules};
+pub use laws::{law_of_repeats, rows_are_rules, rows_rise};
 pub use reader::read;
 pub use row::RuleReader;
 pub use table::Table;

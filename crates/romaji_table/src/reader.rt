@@ -2,12 +2,11 @@ ghost use Rattle.std.specs.Prelude.{◌≡◌, IfOk};
 ghost use Rattle.std.specs.List.{AllByRecursion};
 ghost use Rattle.mz_base.specs.Answers.{Gives};
 ghost use Rattle.mz_base.specs.Kana.{IsRule};
-ghost use Rattle.mz_base.specs.Latest.{latest};
-ghost use Rattle.romaji_table.specs.Repeats.{same_input};
+ghost use Rattle.romaji_table.specs.Inputs.{latest_by_input};
 ghost use Rattle.romaji_table.specs.Rows.{romaji_rows};
 
 use crate::{RuleReader, Table};
-use mz_base::{NoMemory, ReadError, Rule, keep_latest, read_rows};
+use mz_base::{NoMemory, ReadError, Rule, latest_by_name, read_rows};
 use std::alloc::Global;
 
 /// Reads a romaji file.
@@ -20,8 +19,8 @@ pub fn read(alloc: Global, bytes: &[u8]) -> Result<Table, ReadError>
 
 fn table_of(alloc: Global, rows: Vec<Rule>) -> Result<Table, NoMemory>
     requires { AllByRecursion IsRule rows.items }
-    ensures { IfOk result (λ table. table ≡ latest same_input rows.items) }
+    ensures { IfOk result (λ table. table ≡ latest_by_input rows.items) }
 {
-    let kept = keep_latest(alloc, rows)?;
+    let kept = latest_by_name(alloc, rows)?;
     Table::from_rows(alloc, kept)
 }

@@ -42,9 +42,10 @@ impl Table {
         })
     }
 
-    /// The rules, in the order of their rows.
+    /// The rules, in the order of their rows; those of a file, in the order of their inputs.
     pub fn rows(&self) -> &[Rule]
-        ensures { result.now ≡ self.now }
+        ensures value { result.now ≡ self.now }
+        ensures sound { AreRules self.now }
     {
         self.rules.as_slice()
     }

@@ -1,5 +1,7 @@
+ghost use Rattle.std.specs.Prelude.{◌≡◌, IfOk};
+
 use super::*;
-use mz_base::{FaultKind, NoMemory, ReadError, Romaji, Text};
+use mz_base::{FaultKind, NoMemory, ReadError, Romaji, Rule, Text};
 use std::alloc::Global;
 
 /// The rows of a file, or its fault.
@@ -162,15 +164,55 @@ fn finds_the_longest_rule(rt: HostRuntime) -> Result<(), NoMemory> {
     Ok(())
 }
 
-#[test]
-fn keeps_the_later_of_repeated_rows(rt: HostRuntime) -> Result<(), NoMemory> {
-    let Ok(table) = read(rt.alloc(), b"a\tx\nb\ty\na\tz\n") else {
-        return Err(NoMemory);
-    };
-    let mut inputs = String::new(rt.alloc());
-    for rule in table.rows() {
-        inputs.push_str(format!(in rt.alloc(); "{}{} ", rule.input, rule.output)?.as_str())?;
+/// The rules as text: input, output and pending text, and a slash.
+fn text_of(alloc: Global, rules: &[Rule]) -> Result<String, NoMemory> {
+    let mut text = String::new(alloc);
+    for rule in rules {
+        let row = format!(in alloc; "{} {} {}/", rule.input, rule.output, rule.pending)?;
+        text.push_str(row.as_str())?;
     }
-    assert_eq!(rt; inputs.as_str(), "by az ");
+    Ok(text)
+}
+
+fn copy_of(alloc: Global, rules: &[Rule]) -> Result<Vec<Rule>, NoMemory>
+    ensures { IfOk result (λ copy. copy.items ≡ rules.now) }
+{
+    let mut copy = Vec::new(alloc);
+    for rule in rules {
+        copy.push(Rule {
+            input: rule.input.copy(alloc)?,
+            output: rule.output.copy(alloc)?,
+            pending: rule.pending.copy(alloc)?,
+        })?;
+    }
+    Ok(copy)
+}
+
+/// Of one input the last row holds, and the inputs rise by their bytes. A table of a copy has the same rules.
+#[test]
+fn gives_the_rules_in_order(rt: HostRuntime) -> Result<(), NoMemory> {
+    let alloc = rt.alloc();
+    let cases = [
+        ("", ""),
+        ("b\ty\na\tx\nc\t\na\tz\n", "a z /b y /c  /"),
+        ("kka\tっか\nk\tx\nkk\tっ\tk\n", "k x /kk っ k/kka っか /"),
+        // U+1B001 is F0 9B 80 81, and stands behind Ａ, EF BC A1.
+        (
+            "\u{1B001}\t1\nＡ\t2\nz\t3\nが\t4\nか\t5\n",
+            "z 3 /か 5 /が 4 /Ａ 2 /\u{1B001} 1 /",
+        ),
+    ];
+    for (file, wanted) in cases {
+        let Ok(table) = read(alloc, file.as_bytes()) else {
+            return Err(NoMemory);
+        };
+        assert_eq!(rt; text_of(alloc, table.rows())?.as_str(), wanted, "at {file}");
+        let copied = Table::from_rows(alloc, copy_of(alloc, table.rows())?)?;
+        assert_eq!(rt;
+            text_of(alloc, copied.rows())?.as_str(),
+            wanted,
+            "at {file}"
+        );
+    }
     Ok(())
 }

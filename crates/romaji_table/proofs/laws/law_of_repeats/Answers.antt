@@ -1,7 +1,7 @@
 use Rattle.romaji_table.proofs.LatestRules.{latest-AreDistinct}
 use Rattle.romaji_table.proofs.RepeatedRows.{latest-Contains, latest-last}
-use Rattle.romaji_table.specs.Repeats.{same_input}
-use Rattle.romaji_table.proofs.law.law_of_repeats.Goals as goal
+use Rattle.romaji_table.specs.Inputs.{same_input}
+use Rattle.romaji_table.proofs.laws.law_of_repeats.Goals as goal
 
 pub returns : goal.returns
 returns c = record {
