@@ -1,17 +1,32 @@
--- What a matrix keeps beside its costs: the same by left id and then by right id, where all are small.
-use Rattle.std.specs.Prelude.{◌≡◌, ℕ, ◌+◌, ◌*◌, ◌/◌, ◌%◌, ◌<◌, ℤ, pos, List, length, slice_index_or}
-use Rattle.conn_matrix.specs.Costs.{CostTable, IsSquare, cost_at}
+-- What a matrix keeps: its costs in one of two forms.
+use Rattle.std.specs.Prelude.{◌≡◌, ℕ, ◌+◌, ◌*◌, ◌/◌, ◌%◌, ℤ, pos, Bool, true, false, List, length, map, slice_index_or}
+use Rattle.std.specs.List.{range_with_len}
+use Rattle.conn_matrix.specs.Costs.{IsSquare, are_small}
+use Rattle.conn_matrix.specs.declared.kept.KeptCosts.{KeptCosts}
+use Rattle.conn_matrix.specs.declared.kept.KeptCosts.TheVariants.{Small, Wide}
 
--- the cost at this place, where costs go by left id and then by right id
-abbrev pub cost_across : CostTable → ℕ → ℤ
-cost_across table place = cost_at table (place % table.size) (place / table.size)
+-- the place of a pair where costs go by the one id first, from its place where they go by the other
+abbrev pub turned_place : ℕ → ℕ → ℕ
+turned_place size place = place % size * size + place / size
 
--- costs by left id and then by right id: none, or that of each pair
-abbrev pub AreColumns : CostTable → List ℤ → Type 0
-AreColumns table columns =
-    (r l : ℕ) → r < table.size → l < table.size → 0 < length columns → (l * table.size + r < length columns) × (slice_index_or columns (l * table.size + r) (pos 0) ≡ cost_at table r l)
+-- the cost that stands at this place where costs go by the other id first
+abbrev pub across : ℕ → List ℤ → ℕ → ℤ
+across size costs place = slice_index_or costs (turned_place size place) (pos 0)
 
--- a square of costs, kept by columns too
-pub record IsLaidOut (table : CostTable) (columns : List ℤ) : Type 0 where
-  pub square : IsSquare table.size table.costs
-  pub across : AreColumns table columns
+-- the costs of a square by the other id first
+abbrev pub turned : ℕ → List ℤ → List ℤ
+turned size costs = map (across size costs) (range_with_len 0 (length costs))
+
+-- the costs that are kept, by right id and then by left id
+abbrev pub rows_of : ℕ → KeptCosts → List ℤ
+rows_of size (Small costs) = turned size costs.items
+rows_of size (Wide costs) = costs.items
+
+abbrev pub is_small_form : KeptCosts → Bool
+is_small_form (Small costs) = true
+is_small_form (Wide costs) = false
+
+-- a square of costs, in the smaller form exactly where each of them fits
+pub record IsKept (size : ℕ) (kept : KeptCosts) : Type 0 where
+  pub square : IsSquare size (rows_of size kept)
+  pub form : is_small_form kept ≡ are_small (rows_of size kept)

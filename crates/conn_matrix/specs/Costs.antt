@@ -1,5 +1,5 @@
 -- The costs of connections and the file that has them: docs/FORMATS.md, "Connection costs".
-use Rattle.std.specs.Prelude.{◌≡◌, ℕ, ◌+◌, ◌-◌, ◌*◌, ◌<◌, ◌≤◌, ℤ, pos, Bool, ◌&&◌, ◌==◌, List, [], ◌∷◌, Option, Some, None, Result, Ok, Err, if◌then◌else◌, length, nat_le, slice_index_or}
+use Rattle.std.specs.Prelude.{◌≡◌, ℕ, ◌+◌, ◌-◌, ◌*◌, ◌<◌, ◌≤◌, ℤ, pos, negsuc, Bool, ◌&&◌, ◌==◌, List, [], ◌∷◌, Option, Some, None, Result, Ok, Err, if◌then◌else◌, length, nat_le, int_le, slice_index_or}
 use Rattle.std.specs.List.{list_all}
 use Rattle.std.specs.Str.{is_utf8}
 use Rattle.mz_base.specs.Answers.{◌>>=◌}
@@ -21,6 +21,18 @@ pub record CostTable : Type 0 where
 pub record IsSquare (size : ℕ) (costs : List ℤ) : Type 0 where
   pub few : size ≤ MOST_IDS
   pub whole : length costs ≡ size * size
+
+-- the cost is a number of 16 bits
+abbrev pub fits_16_bits : ℤ → Bool
+fits_16_bits cost = int_le (negsuc 32767) cost && int_le cost (pos 32767)
+
+-- each cost is a number of 16 bits
+abbrev pub are_small : List ℤ → Bool
+are_small costs = list_all fits_16_bits costs
+
+-- the bytes that a table takes in memory: two a cost where all are numbers of 16 bits, else four
+abbrev pub bytes_of : CostTable → ℕ
+bytes_of table = (if are_small table.costs then 2 else 4) * length table.costs
 
 -- the cost of a word with the right id r before one with the left id l
 abbrev pub cost_at : CostTable → ℕ → ℕ → ℤ

@@ -2,9 +2,11 @@ ghost use Rattle.std.specs.Prelude.{◌≡◌, ◌<◌, ◌≤◌, ◌∷◌, If
 ghost use Rattle.mz_base.specs.Answers.{Gives};
 ghost use Rattle.mz_base.specs.FileLines.{lines_left};
 ghost use Rattle.mz_base.specs.Lines.{lines_of};
-ghost use Rattle.conn_matrix.specs.Costs.{IsSquare, cost_at, table_in, squared};
+ghost use Rattle.conn_matrix.specs.Costs.{IsSquare, are_small, bytes_of, cost_at, table_in, squared};
 
-use crate::columns::columns_of;
+use crate::columns::rows_from;
+use crate::kept::{KeptCosts, kept_of};
+use crate::limits::MOST_BYTES;
 use crate::reader::{read_costs, read_size};
 use mz_base::{FaultKind, FileLines, MOST_IDS, NoMemory, ReadError};
 use std::alloc::Global;
@@ -14,21 +16,18 @@ use std::marker::Model;
 #[derive(Drop)]
 pub struct Matrix {
     size: u32,
-    costs: Vec<i32>,
-    /// The same by left id and then by right id, where all are small; else none. A best path asks for the costs of
-    /// many right ids with one left id.
-    columns: Vec<i16>,
+    kept: KeptCosts,
 }
 
 impl Model for Matrix {
-    ghost use Rattle.conn_matrix.specs.Columns.{IsLaidOut};
+    ghost use Rattle.conn_matrix.specs.Columns.{IsKept, rows_of};
     ghost use Rattle.conn_matrix.specs.Costs.{CostTable};
 
     ghost Value = { CostTable };
 
-    ghost view = { λ m. record { size = m.size; costs = m.costs.items } };
+    ghost view = { λ m. record { size = m.size; costs = rows_of m.size m.kept } };
 
-    ghost invariant = { λ m. IsLaidOut (record { size = m.size; costs = m.costs.items }) m.columns.items };
+    ghost invariant = { λ m. IsKept m.size m.kept };
 }
 
 impl Matrix {
@@ -48,12 +47,8 @@ impl Matrix {
         requires { IsSquare size costs.items }
         ensures { IfOk result (λ matrix. matrix ≡ record { size = size; costs = costs.items }) }
     {
-        let columns = columns_of(alloc, size, costs.as_slice())?;
-        Ok(Matrix {
-            size,
-            costs,
-            columns,
-        })
+        let kept = kept_of(alloc, size, costs)?;
+        Ok(Matrix { size, kept })
     }
 
     /// The number of ids.
@@ -70,19 +65,39 @@ impl Matrix {
         ensures { result ≡ cost_at self.now r l }
     {
         let (r, l, size) = (r as usize, l as usize, self.size as usize);
-        // The same way for all pairs, so that a loop over them need not ask each time.
-        if self.columns.is_empty() {
-            self.costs[r * size + l]
-        } else {
-            i32::from(self.columns[l * size + r])
+        // The form is the same for all pairs, so that a loop over them need not ask each time.
+        match &self.kept {
+            KeptCosts::Small(columns) => i32::from(columns[l * size + r]),
+            KeptCosts::Wide(costs) => costs[r * size + l],
         }
     }
 
-    /// All costs, by right id and then by left id.
-    pub fn rows(&self) -> &[i32]
-        ensures { result.now ≡ self.now.costs }
+    /// Whether the costs are kept as numbers of 16 bits.
+    pub fn is_small(&self) -> bool
+        ensures { result ≡ are_small self.now.costs }
     {
-        self.costs.as_slice()
+        matches!(self.kept, KeptCosts::Small(_))
+    }
+
+    /// The bytes that the costs take. What a list holds in reserve is not among them.
+    pub fn bytes(&self) -> usize
+        ensures all { result ≡ bytes_of self.now }
+        ensures most { result ≤ MOST_BYTES }
+    {
+        match &self.kept {
+            KeptCosts::Small(columns) => 2 * columns.len(),
+            KeptCosts::Wide(costs) => 4 * costs.len(),
+        }
+    }
+
+    /// A list of all costs, by right id and then by left id.
+    pub fn rows(&self, alloc: Global) -> Result<Vec<i32>, NoMemory>
+        ensures { IfOk result (λ rows. rows.items ≡ self.now.costs) }
+    {
+        match &self.kept {
+            KeptCosts::Small(columns) => rows_from(alloc, self.size, columns),
+            KeptCosts::Wide(costs) => Ok(Vec::from_slice(alloc, costs)?),
+        }
     }
 }
 

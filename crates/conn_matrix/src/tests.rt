@@ -1,11 +1,14 @@
 use super::*;
-use mz_base::{FaultKind, NoMemory, ReadError};
+use mz_base::{FaultKind, MOST_IDS, NoMemory, ReadError};
 use std::alloc::Global;
 
 /// The size and the first cost of a file, or its fault.
 fn sizes(alloc: Global, bytes: &[u8]) -> Option<Result<(u32, Option<i32>), FaultKind>> {
     match Matrix::read(alloc, bytes) {
-        Ok(matrix) => Some(Ok((matrix.size(), matrix.rows().first().copied()))),
+        Ok(matrix) => {
+            let rows = matrix.rows(alloc).ok()?;
+            Some(Ok((matrix.size(), rows.first().copied())))
+        }
         Err(ReadError::Fault(kind)) => Some(Err(kind)),
         Err(ReadError::NoMemory) => None,
     }
@@ -90,9 +93,54 @@ fn costs_go_by_right_id_first(rt: HostRuntime) -> Result<(), ReadError> {
 
 #[test]
 fn rows_give_the_matrix_again(rt: HostRuntime) -> Result<(), NoMemory> {
-    let costs = Vec::from_slice(rt.alloc(), &[3, -4, 5, 6])?;
-    assert_eq!(rt; costs.len(), 4);
-    let matrix = Matrix::from_rows(rt.alloc(), 2, costs)?;
-    assert_eq!(rt; matrix.rows(), [3, -4, 5, 6].as_slice());
+    for last in [6, 32_767, 32_768, -32_768, -32_769] {
+        let costs = Vec::from_slice(rt.alloc(), &[3, -4, 5, last])?;
+        assert_eq!(rt; costs.len(), 4);
+        let matrix = Matrix::from_rows(rt.alloc(), 2, costs)?;
+        let rows = matrix.rows(rt.alloc())?;
+        assert_eq!(rt; rows.as_slice(), [3, -4, 5, last].as_slice());
+    }
+    Ok(())
+}
+
+#[test]
+fn costs_of_16_bits_take_half_the_bytes(rt: HostRuntime) -> Result<(), ReadError> {
+    let files: [(&[u8], bool, usize); 5] = [
+        (b"1\n0\n", true, 2),
+        (b"2\n32767\n-32768\n0\n0\n", true, 8),
+        (b"2\n0\n32768\n0\n0\n", false, 16),
+        (b"2\n0\n0\n-32769\n0\n", false, 16),
+        (b"1\n1000000\n", false, 4),
+    ];
+    for (index, (bytes, small, taken)) in files.into_iter().enumerate() {
+        let matrix = Matrix::read(rt.alloc(), bytes)?;
+        assert_eq!(rt; matrix.is_small(), small, "case {index}");
+        assert_eq!(rt; matrix.bytes(), taken, "case {index}");
+    }
+    Ok(())
+}
+
+/// The matrix of this size whose costs are all the same, if there is one.
+fn even(alloc: Global, size: u32, cost: i32) -> Result<Option<Matrix>, NoMemory> {
+    let count = size as usize * size as usize;
+    let costs = vec![in alloc; cost; count]?;
+    if size <= MOST_IDS && costs.len() == count {
+        Ok(Some(Matrix::from_rows(alloc, size, costs)?))
+    } else {
+        Ok(None)
+    }
+}
+
+#[test]
+fn a_matrix_of_the_most_ids_takes_64_mib_at_most(rt: HostRuntime) -> Result<(), NoMemory> {
+    for (size, cost, taken) in [
+        (4096, 32_767, Some(33_554_432)),
+        (4096, 32_768, Some(67_108_864)),
+        (4097, 0, None),
+    ] {
+        let matrix = even(rt.alloc(), size, cost)?;
+        let bytes = matrix.map(|matrix| matrix.bytes());
+        assert_eq!(rt; bytes, taken, "of {size} and {cost}");
+    }
     Ok(())
 }
