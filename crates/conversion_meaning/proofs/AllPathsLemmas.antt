@@ -30,7 +30,7 @@ Rises-range a zero = tt
 Rises-range a (suc n) =
     (λ y h same. (let r = from_range (a + 1) n y h in absurd (omega (arith, same, r.0))), Rises-range (a + 1) n)
 
-Rises-filter : {X : Type 0} (R : X → X → Type 0) (p : X → Bool) (xs : List X) → Rises R xs → Rises R (filter p xs)
+pub Rises-filter : {X : Type 0} (R : X → X → Type 0) (p : X → Bool) (xs : List X) → Rises R xs → Rises R (filter p xs)
 Rises-filter R p [] h = tt
 Rises-filter {X} R p (x ∷ xs) h = by_test (p x) (Rises-filter R p xs h.1)
   where
@@ -38,7 +38,7 @@ Rises-filter {X} R p (x ∷ xs) h = by_test (p x) (Rises-filter R p xs h.1)
     by_test true rest = (λ y k. h.0 y (from_filter p y xs k).0, rest)
     by_test _ rest = rest
 
-Rises-map : {X Y : Type 0} (f : X → Y) (xs : List X) → ((x y : X) → f x ≡ f y → x ≡ y) → Rises Differ xs → Rises Differ (map f xs)
+pub Rises-map : {X Y : Type 0} (f : X → Y) (xs : List X) → ((x y : X) → f x ≡ f y → x ≡ y) → Rises Differ xs → Rises Differ (map f xs)
 Rises-map f [] one h = tt
 Rises-map {X} {Y} f (x ∷ xs) one h = (ahead, Rises-map f xs one h.1)
   where
@@ -91,7 +91,11 @@ Rises-paths_within es (suc most) from to =
         let e : [] ≡ r.0 ∷ q.0 = none ∙ (same ∙ sym q.2) in
         cc
 
-pub AllPairs-all_paths : (es : List Entry) (span : Span) → AllPairs (λ p q. p ≢ q) (all_paths es span)
+pub Rises-all_paths : (es : List Entry) (span : Span) → Rises Differ (all_paths es span)
 unfolding all_paths
+Rises-all_paths es span =
+    Rises-paths_within es (span.end - span.begin) span.begin span.end
+
+pub AllPairs-all_paths : (es : List Entry) (span : Span) → AllPairs (λ p q. p ≢ q) (all_paths es span)
 AllPairs-all_paths es span =
-    AllPairs-from_rises Differ (all_paths es span) (Rises-paths_within es (span.end - span.begin) span.begin span.end)
+    AllPairs-from_rises Differ (all_paths es span) (Rises-all_paths es span)

@@ -15,3 +15,6 @@ pub mod Tests
 pub mod SetLemmas
 pub mod WellTests
 pub mod RangeLemmas
+pub mod InOrderLemmas
+pub mod AnswerLemmas
+pub mod CandidateLemmas

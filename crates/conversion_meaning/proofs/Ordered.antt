@@ -21,7 +21,7 @@ pub same_from_last : (p q : List ℕ) → slice_cmp nat_cmp (reverse p) (reverse
 same_from_last p q tied =
     sym (reverse-reverse p) ∙ ap reverse (exact_bytes (reverse p) (reverse q) tied) ∙ reverse-reverse q
 
-cases_by_order : (p q : List ℕ) (o : Ordering) → slice_cmp nat_cmp (reverse p) (reverse q) ≡ o → (p ≡ q) ⊎ (IsLowerFromLast p q ⊎ IsLowerFromLast q p)
+pub cases_by_order : (p q : List ℕ) (o : Ordering) → slice_cmp nat_cmp (reverse p) (reverse q) ≡ o → (p ≡ q) ⊎ (IsLowerFromLast p q ⊎ IsLowerFromLast q p)
 cases_by_order p q Less is = inr (inl is)
 cases_by_order p q Equal is = inl (same_from_last p q is)
 cases_by_order p q Greater is =

@@ -72,7 +72,7 @@ pub IsBest-nothing : (d : DataLists) (l : Lattice) (span : Span) → IsWellForme
 IsBest-nothing d l span well same =
     record { joined = same; first = λ q over differ. absurd (differ (only_nothing l.entries (AreForward-from_well d l well) span.begin q (subst (λ x. IsPath l.entries span.begin x q) (sym same) over))) }
 
-number_cases : (x y : ℤ) → (x <ℤ y) ⊎ ((x ≡ y) ⊎ (y <ℤ x))
+pub number_cases : (x y : ℤ) → (x <ℤ y) ⊎ ((x ≡ y) ⊎ (y <ℤ x))
 number_cases x y =
     by_ranked (x <ℤ y) (x ≡ y) (y <ℤ x) (int_cmp x y) (int_ranked x y (int_cmp x y) refl) (λ _ less. inl less) (λ _ same. inr (inl same)) (λ _ more. inr (inr more))
 

@@ -4,14 +4,19 @@ use Rattle.mz_base.specs.Data.{DataLists}
 use Rattle.mz_base.specs.declared.data.PosRow.{PosRow}
 use Rattle.mz_base.specs.declared.data.UnknownRow.{UnknownRow}
 use Rattle.mz_base.specs.declared.data.WordRow.{WordRow}
+use Rattle.mz_base.specs.declared.lattice.Candidate.{Candidate}
+use Rattle.mz_base.specs.declared.lattice.Certificate.{Certificate}
 use Rattle.mz_base.specs.declared.lattice.Entry.{Entry}
 use Rattle.mz_base.specs.declared.lattice.Source.{Source}
 use Rattle.mz_base.specs.declared.status.CertFault.TheVariants as fault
 use Rattle.mz_base.specs.declared.lattice.Source.TheVariants.{Word, Char, Run}
 use Rattle.mz_base.specs.declared.lattice.Span.{Span}
+use Rattle.conversion_meaning.specs.Answers.{answer}
 use Rattle.conversion_meaning.specs.Best.{IsBest}
+use Rattle.conversion_meaning.specs.Candidates.{first_values}
 use Rattle.conversion_meaning.specs.Certificates.{Claim, IsCertificate}
 use Rattle.conversion_meaning.specs.Entries.{entries, suppressed}
+use Rattle.conversion_meaning.specs.InOrder.{paths_in_order}
 use Rattle.conversion_meaning.specs.Verdicts.{IsFault}
 
 abbrev pub word_row : List ℕ → ℕ → ℕ → ℕ → List ℕ → WordRow
@@ -138,3 +143,28 @@ pub record KyouhaFaults : Type 0 where
   pub few_potentials : IsFault (claim_with (1 ∷ 5 ∷ []) seven_potentials (pos 750)) (fault.Length 8 7)
   pub dearer_path : IsFault (claim_with (1 ∷ 6 ∷ []) kyouha_potentials (pos 750)) (fault.Total (pos 750) (pos 1500))
   pub short_path : IsFault (claim_with (1 ∷ []) kyouha_potentials (pos 750)) (fault.Path 1)
+
+-- of two words of one cost the one of the lower row is first, and the character costs most
+abbrev pub MoInOrder : Type 0
+MoInOrder = paths_in_order set mo_entries (span_of 1) ≡ (0 ∷ []) ∷ (1 ∷ []) ∷ (2 ∷ []) ∷ []
+
+abbrev pub value_with : List ℕ → ℕ → Candidate
+value_with value cost = record { value = value; cost = Some (pos cost) }
+
+-- 今日は, 京は, 今日葉, 京葉, きょうは, きょう葉: each at its least cost
+abbrev pub KyouhaValues : Type 0
+KyouhaValues =
+    first_values set [] kyouha kyouha_entries (span_of 4) ≡ value_with (0x4eca ∷ 0x65e5 ∷ 0x306f ∷ []) 750 ∷ value_with (0x4eac ∷ 0x306f ∷ []) 800 ∷ value_with (0x4eca ∷ 0x65e5 ∷ 0x8449 ∷ []) 1500 ∷ value_with (0x4eac ∷ 0x8449 ∷ []) 1550 ∷ value_with (0x304d ∷ 0x3087 ∷ 0x3046 ∷ 0x306f ∷ []) 16250 ∷ value_with (0x304d ∷ 0x3087 ∷ 0x3046 ∷ 0x8449 ∷ []) 17000 ∷ []
+
+-- the answer to きょうは with a bound after き
+abbrev pub kyouha_cut_answer : Certificate
+kyouha_cut_answer =
+    record {
+      bounds = 1 ∷ [];
+      path = 0 ∷ 1 ∷ 2 ∷ 3 ∷ [];
+      potentials = pos 5100 ∷ pos 10500 ∷ pos 15900 ∷ pos 16050 ∷ pos 16900 ∷ pos 21300 ∷ [];
+      total = pos 16250;
+    }
+
+abbrev pub KyouhaCutAnswer : Type 0
+KyouhaCutAnswer = answer set [] kyouha (1 ∷ []) ≡ kyouha_cut_answer

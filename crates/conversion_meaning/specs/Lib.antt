@@ -1,9 +1,13 @@
 pub mod AllPaths
+pub mod AnswerLaws
+pub mod Answers
 pub mod Best
 pub mod Bounds
+pub mod Candidates
 pub mod Certificates
 pub mod Entries
 pub mod Examples
+pub mod InOrder
 pub mod Lattices
 pub mod Laws
 pub mod Order

@@ -1,6 +1,7 @@
 ghost use Rattle.std.specs.Prelude.{◌≡◌, IfOk};
 ghost use Rattle.conversion_meaning.specs.Best.{IsBest};
 ghost use Rattle.conversion_meaning.specs.Certificates.{IsCertificate, claim_of};
+ghost use Rattle.conversion_meaning.specs.InOrder.{best_path};
 ghost use Rattle.conversion_meaning.specs.Lattices.{IsWellFormed};
 ghost use Rattle.conversion_meaning.specs.Paths.{IsSpan, path_cost};
 ghost use Rattle.conversion_meaning.specs.Potentials.{AreLeastCosts};
@@ -19,6 +20,7 @@ pub fn solve<D: DataSet>(
     requires well { IsWellFormed (D.lists set.now) lattice.now }
     requires span { IsSpan (D.lists set.now) lattice.now span.now }
     ensures best { IfOk result (λ c. IsBest (D.lists set.now) lattice.now.entries span.now c.path) }
+    ensures first { IfOk result (λ c. c.path ≡ best_path (D.lists set.now) lattice.now.entries span.now) }
     ensures total { IfOk result (λ c. c.total ≡ path_cost (D.lists set.now) lattice.now.entries span.now c.path) }
     ensures potentials { IfOk result (λ c. AreLeastCosts (D.lists set.now) lattice.now.entries span.now c.potentials) }
     ensures certified { IfOk result (λ c. IsCertificate (claim_of (D.lists set.now) lattice.now.entries span.now c)) }

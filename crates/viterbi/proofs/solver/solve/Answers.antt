@@ -3,6 +3,8 @@ use Rattle.std.specs.Prelude.{pos, reverse}
 use Rattle.std.proofs.lemmas.Int.{ints}
 use Rattle.mz_base.specs.declared.lattice.Entry.{Entry}
 use Rattle.conversion_meaning.specs.Potentials.{AreLeastCosts, ordinals_in}
+use Rattle.conversion_meaning.proofs.BestLemmas.{AreForward-from_well}
+use Rattle.conversion_meaning.proofs.InOrderLemmas.{IsBest-is_first}
 use Rattle.viterbi.specs.declared.table.Reached.{Reached}
 use Rattle.viterbi.specs.Table.{IsReached, IsTrail, reached}
 use Rattle.viterbi.proofs.SolvedLemmas.{IfSome-last, AreLeastCosts-table, IsBest-reached, total_is, IsWithin-total, IsCertificate-reached}
@@ -25,6 +27,19 @@ returns-clause-best g c =
     let over : (back : List ℕ) × IsTrail table r.before back × (c.in_ok-path.path.items ≡ reverse back) = subst (λ t. (back : List ℕ) × IsTrail t r.before back × (c.in_ok-path.path.items ≡ reverse back)) c.as_slice-2.ensures.value c.in_ok-path.ensures in
     let trail : (back : List ℕ) × IsTrail table r.before back × (path ≡ reverse back) = (over.0, over.1, c.from_vec-2.ensures ∙ over.2) in
     IsBest-reached d l span table r is path trail
+
+pub returns-clause-first : goal.returns-clause-first
+returns-clause-first g c =
+    let d = g.D.DataSet.lists c.args.set.now in
+    let l = c.args.lattice.now in
+    let span = c.args.span.now in
+    let table = c.in_ok-table.table.items in
+    let r = c.in_ok-last.last in
+    let path = c.from_vec-2.result in
+    let is : IsReached d l.entries span table span.end span.right (pos 0) r = subst (λ t. IsReached d l.entries span t span.end span.right (pos 0) r) c.as_slice.ensures.value c.in_ok-last.ensures in
+    let over : (back : List ℕ) × IsTrail table r.before back × (c.in_ok-path.path.items ≡ reverse back) = subst (λ t. (back : List ℕ) × IsTrail t r.before back × (c.in_ok-path.path.items ≡ reverse back)) c.as_slice-2.ensures.value c.in_ok-path.ensures in
+    let trail : (back : List ℕ) × IsTrail table r.before back × (path ≡ reverse back) = (over.0, over.1, c.from_vec-2.ensures ∙ over.2) in
+    IsBest-is_first d l.entries span (AreForward-from_well d l c.requires.well) path (IsBest-reached d l span table r is path trail)
 
 pub returns-clause-total : goal.returns-clause-total
 returns-clause-total g c =

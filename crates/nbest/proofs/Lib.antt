@@ -1,0 +1,9 @@
+pub mod CostLemmas
+pub mod CountLemmas
+pub mod FirstLemmas
+pub mod GrowLemmas
+pub mod QueueLemmas
+pub mod SearchLemmas
+pub mod SignedLemmas
+pub mod StepLemmas
+pub mod TailLemmas

@@ -1,0 +1,4 @@
+pub mod Costs
+pub mod Searches
+pub mod Tails
+pub mod Weights
