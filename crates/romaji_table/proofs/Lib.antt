@@ -4,3 +4,4 @@ pub mod LatestRules
 pub mod LongestRule
 pub mod RepeatedRows
 pub mod RuleLaws
+pub mod ShortRules
