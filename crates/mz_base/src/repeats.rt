@@ -41,7 +41,7 @@ pub fn latest_by_name<T: Named + Drop>(alloc: Global, rows: Vec<T>) -> Result<Ve
 }
 
 /// The rows whose name no later row has, in their order.
-pub fn keep_latest<T: Named + Drop>(alloc: Global, rows: Vec<T>) -> Result<Vec<T>, NoMemory>
+fn keep_latest<T: Named + Drop>(alloc: Global, rows: Vec<T>) -> Result<Vec<T>, NoMemory>
     ensures { IfOk result (λ kept. kept.items ≡ latest (same_name T.name) rows.items) }
 {
     let mut kept = Vec::new(alloc);

@@ -1,25 +1,22 @@
 -- The nodes of a file of unknown words are within their limits.
-use Rattle.std.proofs.Common.{◌≡◌, ℕ, suc, ◌<◌, Bool, cond, eqb, nat_le, List, [], ◌∷◌, Option, Some, None, Result, Ok, Err, length, option_to_list, unwrap_or, refl, arith, inl, inr, subst}
+use Rattle.std.proofs.Common.{◌≡◌, ℕ, suc, ◌<◌, Bool, List, [], ◌∷◌, Option, Some, None, Result, Ok, Err, unwrap_or, refl, arith, inl, inr, subst}
 use Rattle.std.specs.List.{All, AllByRecursion, find, list_any}
 use Rattle.std.specs.Option.{option_map}
-use Rattle.std.specs.Str.{is_utf8}
 use Rattle.std.proofs.lemmas.Bool.{cases_Bool}
 use Rattle.std.proofs.lemmas.Bool.Decides.{nat_tests}
-use Rattle.std.proofs.lemmas.List.Elements.{All-cons, All-nil}
 use Rattle.mz_base.specs.Answers.{◌>>=◌}
 use Rattle.mz_base.specs.Data.{IsNode}
 use Rattle.mz_base.specs.Latest.{latest}
-use Rattle.mz_base.specs.Lines.{fields_of, lines_of}
-use Rattle.mz_base.specs.Rows.{rows_after}
+use Rattle.mz_base.specs.Lines.{fields_of}
+use Rattle.mz_base.specs.Rows.{table_rows}
 use Rattle.mz_base.specs.declared.data.Class.{Class}
 use Rattle.mz_base.specs.declared.data.Class.TheVariants.{Hiragana, Katakana, Digit, Letter, Other}
-use Rattle.mz_base.specs.declared.data.TheConstants.{MOST_ROWS}
 use Rattle.mz_base.specs.declared.data.UnknownRow.{UnknownRow}
 use Rattle.mz_base.specs.declared.fault.FaultKind.{FaultKind}
-use Rattle.mz_base.specs.declared.fault.FaultKind.TheVariants.{NotUtf8, Range, Limit}
+use Rattle.mz_base.specs.declared.fault.FaultKind.TheVariants.{Range}
 use Rattle.mz_base.proofs.LimitLemmas.{IsCost-from_test}
-use Rattle.mz_base.proofs.RowFacts.{rows_after-All}
-use Rattle.pos_table.specs.Classes.{ClassFields, class_fields, class_in, class_named, class_numbers, class_row, classed, fields_class, has_class, is_node, last_node, no_node, node_of, nodes_of, ranged, same_class, unknown_rows}
+use Rattle.mz_base.proofs.RowFacts.{table_rows-All}
+use Rattle.pos_table.specs.Classes.{ClassFields, class_fields, class_in, class_named, class_numbers, classed, fields_class, has_class, is_node, last_node, no_node, node_of, nodes_of, ranged, same_class, unknown_rows}
 use Rattle.pos_table.specs.Nodes.{AreNodes}
 use Rattle.pos_table.specs.declared.unknown.ClassRow.{ClassRow}
 
@@ -47,32 +44,6 @@ fields-HasNode : (ids number : ℕ) (fields : Option ClassFields) (row : ClassRo
 fields-HasNode ids number None row given = absurd cc
 fields-HasNode ids number (Some fields) row given =
     classed-HasNode ids number fields (class_named fields.class) row given
-
--- what a line gives
-kept-HasNode : (ids number count : ℕ) (read : Result ClassRow FaultKind) (row : Option ClassRow) → ((one : ClassRow) → read ≡ Ok one → HasNode ids one) → (read >>= (λ one. cond (nat_le MOST_ROWS count) (Err (Limit number)) (Ok (Some one)))) ≡ Ok row → All (HasNode ids) (option_to_list row)
-kept-HasNode ids number count (Err kind) row each given = absurd cc
-kept-HasNode ids number count (Ok one) row each given =
-    elim (cases_Bool (nat_le MOST_ROWS count)) [
-      | inl passes ↦ let never : Err (Limit number) ≡ Ok row = rw passes at given in absurd cc
-      | inr within ↦
-          let is : Ok (Some one) ≡ Ok row = rw within at given in
-          let same : Some one ≡ row = cc in
-          subst (λ row. All (HasNode ids) (option_to_list row)) same (All-cons (HasNode ids) one [] (each one refl) (All-nil (HasNode ids)))
-    ]
-
-line-HasNode : (ids : ℕ) (rows : List ClassRow) (number : ℕ) (line : List ℕ) (row : Option ClassRow) → class_row ids rows number line ≡ Ok row → All (HasNode ids) (option_to_list row)
-unfolding class_row
-line-HasNode ids rows number line row given =
-    elim (cases_Bool (is_utf8 line)) [
-      | inl text ↦ elim (cases_Bool (eqb (length line) 0)) [
-        | inl empty ↦
-            let is : Ok None ≡ Ok row = rw (text, empty) at given in
-            let same : None ≡ row = cc in
-            subst (λ row. All (HasNode ids) (option_to_list row)) same (All-nil (HasNode ids))
-        | inr some ↦ kept-HasNode ids number (length rows) (class_in ids number line) row (λ one read. fields-HasNode ids number (class_fields (fields_of line)) one read) (rw (text, some) at given)
-      ]
-      | inr bytes ↦ let never : Err (NotUtf8 number) ≡ Ok row = rw bytes at given in absurd cc
-    ]
 
 -- what is found among the latest rows is a row
 found-HasNode : (ids : ℕ) (p : ClassRow → Bool) (rows : List ClassRow) (row : ClassRow) → AllByRecursion (HasNode ids) rows → find p (latest same_class rows) ≡ Some row → HasNode ids row
@@ -112,4 +83,4 @@ read-AreNodes ids (Ok all) rows some each given =
 
 pub AreNodes-read : (ids : ℕ) (bytes : List ℕ) (rows : List UnknownRow) → 0 < ids → unknown_rows ids bytes ≡ Ok rows → AreNodes ids rows
 AreNodes-read ids bytes rows some given =
-    read-AreNodes ids (rows_after (class_row ids) [] 1 (lines_of bytes)) rows some (λ all read. AllByRecursion-All (HasNode ids) all (rows_after-All (HasNode ids) (class_row ids) (line-HasNode ids) [] 1 (lines_of bytes) all (All-nil (HasNode ids)) read)) given
+    read-AreNodes ids (table_rows (class_in ids) bytes) rows some (λ all read. AllByRecursion-All (HasNode ids) all (table_rows-All (HasNode ids) (class_in ids) (λ number line row given. fields-HasNode ids number (class_fields (fields_of line)) row given) bytes all read)) given

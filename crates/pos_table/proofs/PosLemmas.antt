@@ -1,29 +1,33 @@
 -- The ids of an id file and of a file of parts of speech are there, and the costs within their limits.
-use Rattle.std.proofs.Common.{◌≡◌, ℕ, zero, suc, ◌+◌, ◌<◌, ◌≤◌, ℤ, Bool, true, cond, eqb, nat_le, List, [], ◌∷◌, Option, Some, None, Result, Ok, Err, length, option_to_list, refl, arith, inl, inr, subst}
-use Rattle.std.specs.List.{All, AllByRecursion, filter_map, find, list_any, range_with_len}
+use Rattle.std.proofs.Common.{◌≡◌, ℕ, zero, suc, ◌+◌, ◌<◌, ◌≤◌, ℤ, Bool, true, eqb, List, [], ◌∷◌, Option, Some, None, Result, Ok, Err, length, refl, arith, inl, inr, subst}
+use Rattle.std.specs.List.{AllByRecursion, filter_map, find, range_with_len}
+use Rattle.std.specs.List.Sorted.{IsPermutation}
 use Rattle.std.specs.Option.{option_map}
-use Rattle.std.specs.Str.{chars, is_utf8}
+use Rattle.std.specs.Str.{chars}
 use Rattle.std.proofs.lemmas.Bool.{cases_Bool}
 use Rattle.std.proofs.lemmas.Bool.Decides.{nat_tests}
-use Rattle.std.proofs.lemmas.List.Elements.{All-cons, All-nil, recursion_from_All}
+use Rattle.std.proofs.lemmas.List.Elements.{recursion_from_All}
 use Rattle.mz_base.specs.Answers.{◌>>=◌}
+use Rattle.mz_base.specs.ByName.{RiseByName, latest_by_name, name_before}
 use Rattle.mz_base.specs.Data.{IsNode, is_text}
 use Rattle.mz_base.specs.Latest.{latest}
 use Rattle.mz_base.specs.Limits.{is_cost, is_long}
 use Rattle.mz_base.specs.Lines.{fields_of, lines_of}
 use Rattle.mz_base.specs.Numbers.{signed_of}
-use Rattle.mz_base.specs.Rows.{rows_after}
+use Rattle.mz_base.specs.Rows.{rows_after, table_rows}
 use Rattle.mz_base.specs.declared.data.IdRow.{IdRow}
 use Rattle.mz_base.specs.declared.data.PosRow.{PosRow}
-use Rattle.mz_base.specs.declared.data.TheConstants.{MOST_ROWS}
 use Rattle.mz_base.specs.declared.fault.FaultKind.{FaultKind}
-use Rattle.mz_base.specs.declared.fault.FaultKind.TheVariants.{NotUtf8, Empty, Range, Limit}
+use Rattle.mz_base.specs.declared.fault.FaultKind.TheVariants.{Empty, Range, Limit}
+use Rattle.mz_base.proofs.AnswerLemmas.{part_gave}
+use Rattle.mz_base.proofs.ByNameLemmas.{latest-All, latest_by_name-rise, latest_by_name-same}
 use Rattle.mz_base.proofs.LimitLemmas.{IsCost-from_test}
-use Rattle.mz_base.proofs.RowFacts.{rows_after-All}
+use Rattle.mz_base.proofs.RowFacts.{table_rows-All}
+use Rattle.mz_base.proofs.SortLemmas.{in_order-All}
 use Rattle.pos_table.proofs.IdLemmas.{found-passes}
 use Rattle.pos_table.specs.Ids.{by_id, has_id, id_row, id_rows, same_id}
 use Rattle.pos_table.specs.Nodes.{AreIds, ArePosNodes}
-use Rattle.pos_table.specs.UserPos.{PosFields, featured, fields_pos, id_of, pos_fields, pos_in, pos_row, pos_rows, priced, same_pos}
+use Rattle.pos_table.specs.UserPos.{PosFields, featured, fields_pos, id_of, name_of, pos_fields, pos_in, pos_rows, priced, same_pos}
 
 -- what is found is one of them
 found-has : {A : Type 0} (P : A → Type 0) (p : A → Bool) (xs : List A) (x : A) → AllByRecursion P xs → find p xs ≡ Some x → P x
@@ -103,47 +107,31 @@ fields-HasNode ids features number (Some fields) row are given =
       | inr named ↦ priced-HasNode ids features number fields (signed_of 10 fields.cost) row are (rw named at given)
     ]
 
--- what a line gives
-kept-HasNode : (ids number count : ℕ) (read : Result PosRow FaultKind) (row : Option PosRow) → ((one : PosRow) → read ≡ Ok one → HasNode ids one) → (read >>= (λ one. cond (nat_le MOST_ROWS count) (Err (Limit number)) (Ok (Some one)))) ≡ Ok row → All (HasNode ids) (option_to_list row)
-kept-HasNode ids number count (Err kind) row each given = absurd cc
-kept-HasNode ids number count (Ok one) row each given =
-    elim (cases_Bool (nat_le MOST_ROWS count)) [
-      | inl passes ↦ let never : Err (Limit number) ≡ Ok row = rw passes at given in absurd cc
-      | inr within ↦
-          let is : Ok (Some one) ≡ Ok row = rw within at given in
-          let same : Some one ≡ row = cc in
-          subst (λ row. All (HasNode ids) (option_to_list row)) same (All-cons (HasNode ids) one [] (each one refl) (All-nil (HasNode ids)))
-    ]
-
-line-HasNode : (ids : ℕ) (features : List IdRow) → AreIds ids features → (rows : List PosRow) (number : ℕ) (line : List ℕ) (row : Option PosRow) → pos_row features rows number line ≡ Ok row → All (HasNode ids) (option_to_list row)
-unfolding pos_row
-line-HasNode ids features are rows number line row given =
-    elim (cases_Bool (is_utf8 line)) [
-      | inl text ↦ elim (cases_Bool (eqb (length line) 0)) [
-        | inl empty ↦
-            let is : Ok None ≡ Ok row = rw (text, empty) at given in
-            let same : None ≡ row = cc in
-            subst (λ row. All (HasNode ids) (option_to_list row)) same (All-nil (HasNode ids))
-        | inr some ↦ kept-HasNode ids number (length rows) (pos_in features number line) row (λ one read. fields-HasNode ids features number (pos_fields (fields_of line)) one are read) (rw (text, some) at given)
-      ]
-      | inr bytes ↦ let never : Err (NotUtf8 number) ≡ Ok row = rw bytes at given in absurd cc
-    ]
+nodes-from : (ids : ℕ) (rows : List PosRow) → AllByRecursion (HasNode ids) rows → ArePosNodes ids rows
+nodes-from ids [] all = tt
+nodes-from ids (row ∷ rows) all = (all.0.node, nodes-from ids rows all.1)
 
 -- the rows that are kept are rows
-latest-ArePosNodes : (ids : ℕ) (rows : List PosRow) → AllByRecursion (HasNode ids) rows → ArePosNodes ids (latest same_pos rows)
-latest-ArePosNodes ids [] all = tt
-latest-ArePosNodes ids (row ∷ rows) all =
-    elim (cases_Bool (list_any (same_pos row) rows)) [
-      | inl repeats ↦ rw repeats (latest-ArePosNodes ids rows all.1)
-      | inr last ↦ rw last (all.0.node, latest-ArePosNodes ids rows all.1)
-    ]
-
-read-ArePosNodes : (ids : ℕ) (read : Result (List PosRow) FaultKind) (rows : List PosRow) → ((all : List PosRow) → read ≡ Ok all → AllByRecursion (HasNode ids) all) → (read >>= (λ all. Ok (latest same_pos all))) ≡ Ok rows → ArePosNodes ids rows
-read-ArePosNodes ids (Err kind) rows each given = absurd cc
-read-ArePosNodes ids (Ok all) rows each given =
-    let same : latest same_pos all ≡ rows = cc in
-    subst (ArePosNodes ids) same (latest-ArePosNodes ids all (each all refl))
+latest-ArePosNodes : (ids : ℕ) (rows : List PosRow) → AllByRecursion (HasNode ids) rows → ArePosNodes ids (latest_by_name name_of rows)
+latest-ArePosNodes ids rows all =
+    nodes-from ids (latest_by_name name_of rows) (in_order-All (name_before name_of) (HasNode ids) (latest same_pos rows) (latest-All (HasNode ids) same_pos rows all))
 
 pub ArePosNodes-read : (ids : ℕ) (features : List IdRow) (bytes : List ℕ) (rows : List PosRow) → AreIds ids features → pos_rows features bytes ≡ Ok rows → ArePosNodes ids rows
 ArePosNodes-read ids features bytes rows are given =
-    read-ArePosNodes ids (rows_after (pos_row features) [] 1 (lines_of bytes)) rows (λ all read. recursion_from_All (HasNode ids) all (rows_after-All (HasNode ids) (pos_row features) (line-HasNode ids features are) [] 1 (lines_of bytes) all (All-nil (HasNode ids)) read)) given
+    let (all, read, kept) = part_gave (table_rows (pos_in features) bytes) _ rows given in
+    let same : latest_by_name name_of all ≡ rows = cc in
+    subst (ArePosNodes ids) same (latest-ArePosNodes ids all (recursion_from_All (HasNode ids) all (table_rows-All (HasNode ids) (pos_in features) (λ number line row given. fields-HasNode ids features number (pos_fields (fields_of line)) row are given) bytes all read)))
+
+-- the names rise
+pub RiseByName-read : (features : List IdRow) (bytes : List ℕ) (rows : List PosRow) → pos_rows features bytes ≡ Ok rows → RiseByName name_of rows
+RiseByName-read features bytes rows given =
+    let (all, read, kept) = part_gave (table_rows (pos_in features) bytes) _ rows given in
+    let same : latest_by_name name_of all ≡ rows = cc in
+    subst (RiseByName name_of) same (latest_by_name-rise name_of all)
+
+-- the rows are those that no later row repeats
+pub same-read : (features : List IdRow) (bytes : List ℕ) (all rows : List PosRow) → table_rows (pos_in features) bytes ≡ Ok all → pos_rows features bytes ≡ Ok rows → IsPermutation (latest same_pos all) rows
+same-read features bytes all rows read given =
+    let kept : Ok (latest_by_name name_of all) ≡ Ok rows = rw read at given in
+    let same : latest_by_name name_of all ≡ rows = cc in
+    subst (IsPermutation (latest same_pos all)) same (latest_by_name-same name_of all)

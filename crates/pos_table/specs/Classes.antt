@@ -1,15 +1,14 @@
 -- The rows of a file of unknown words: docs/FORMATS.md, "Unknown words".
-use Rattle.std.specs.Prelude.{ℕ, ℤ, ◌==◌, ◌&&◌, Bool, not, List, [], ◌∷◌, map, Option, Some, None, Result, Ok, Err, if◌then◌else◌, codes, length, nat_lt, nat_le, find, unwrap_or}
+use Rattle.std.specs.Prelude.{ℕ, ℤ, ◌==◌, ◌&&◌, Bool, List, [], ◌∷◌, map, Option, Some, None, Result, Ok, Err, if◌then◌else◌, codes, nat_lt, find, unwrap_or}
 use Rattle.std.specs.Option.{option_map}
-use Rattle.std.specs.Str.{bytes_eq, is_utf8}
+use Rattle.std.specs.Str.{bytes_eq}
 use Rattle.mz_base.specs.Answers.{◌>>=◌}
 use Rattle.mz_base.specs.Data.{class_place}
 use Rattle.mz_base.specs.Latest.{latest}
 use Rattle.mz_base.specs.Limits.{is_cost}
-use Rattle.mz_base.specs.Lines.{lines_of, fields_of}
+use Rattle.mz_base.specs.Lines.{fields_of}
 use Rattle.mz_base.specs.Numbers.{number_of, signed_of}
-use Rattle.mz_base.specs.Rows.{rows_after}
-use Rattle.mz_base.specs.declared.data.TheConstants.{MOST_ROWS}
+use Rattle.mz_base.specs.Rows.{table_rows}
 use Rattle.mz_base.specs.declared.data.Class.{Class}
 use Rattle.mz_base.specs.declared.data.Class.TheVariants.{Hiragana, Katakana, Digit, Letter, Other}
 use Rattle.mz_base.specs.declared.data.UnknownRow.{UnknownRow}
@@ -67,13 +66,6 @@ fields_class ids number (Some row) = classed ids number row (class_named row.cla
 abbrev pub class_in : ℕ → ℕ → List ℕ → Result ClassRow FaultKind
 class_in ids number line = fields_class ids number (class_fields (fields_of line))
 
--- what the line with this number gives after these rows; an empty line gives none
-unfoldable pub class_row : ℕ → List ClassRow → ℕ → List ℕ → Result (Option ClassRow) FaultKind
-class_row ids rows number line =
-    if not (is_utf8 line) then Err (NotUtf8 number) else
-    if length line == 0 then Ok None else
-    class_in ids number line >>= (λ row. if nat_le MOST_ROWS (length rows) then Err (Limit number) else Ok (Some row))
-
 -- the row is of this class
 abbrev pub has_class : Class → ClassRow → Bool
 has_class class row = class_place row.class == class_place class
@@ -100,4 +92,4 @@ nodes_of rows = map (node_of rows) (Hiragana ∷ Katakana ∷ Digit ∷ Letter �
 
 -- the five rows of a file, or its first fault
 abbrev pub unknown_rows : ℕ → List ℕ → Result (List UnknownRow) FaultKind
-unknown_rows ids bytes = rows_after (class_row ids) [] 1 (lines_of bytes) >>= (λ rows. Ok (nodes_of rows))
+unknown_rows ids bytes = table_rows (class_in ids) bytes >>= (λ rows. Ok (nodes_of rows))

@@ -1,14 +1,11 @@
 -- The rows of a segment file: docs/FORMATS.md, "Segments".
-use Rattle.std.specs.Prelude.{ℕ, ◌==◌, ◌&&◌, Bool, not, List, [], ◌∷◌, Option, Some, None, Result, Ok, Err, if◌then◌else◌, length, nat_lt, nat_le}
-use Rattle.std.specs.Str.{is_utf8}
-use Rattle.mz_base.specs.Answers.{◌>>=◌}
-use Rattle.mz_base.specs.Lines.{lines_of, fields_of}
+use Rattle.std.specs.Prelude.{ℕ, ◌&&◌, Bool, List, ◌∷◌, Option, Some, None, Result, Ok, Err, if◌then◌else◌, nat_lt, nat_le}
+use Rattle.mz_base.specs.Lines.{fields_of}
 use Rattle.mz_base.specs.Numbers.{number_of}
-use Rattle.mz_base.specs.Rows.{rows_after}
-use Rattle.mz_base.specs.declared.data.TheConstants.{MOST_ROWS}
+use Rattle.mz_base.specs.Rows.{table_rows}
 use Rattle.mz_base.specs.declared.data.JoinRow.{JoinRow}
 use Rattle.mz_base.specs.declared.fault.FaultKind.{FaultKind}
-use Rattle.mz_base.specs.declared.fault.FaultKind.TheVariants.{NotUtf8, Fields, Number, Range, Limit}
+use Rattle.mz_base.specs.declared.fault.FaultKind.TheVariants.{Fields, Number, Range}
 
 -- the fields of a row, before they are read
 pub record JoinFields : Type 0 where
@@ -49,13 +46,6 @@ fields_join ids number (Some row) = ranged ids number (join_numbers row)
 abbrev pub join_in : ℕ → ℕ → List ℕ → Result JoinRow FaultKind
 join_in ids number line = fields_join ids number (join_fields (fields_of line))
 
--- what the line with this number gives after these rows; an empty line gives none
-unfoldable pub join_row : ℕ → List JoinRow → ℕ → List ℕ → Result (Option JoinRow) FaultKind
-join_row ids rows number line =
-    if not (is_utf8 line) then Err (NotUtf8 number) else
-    if length line == 0 then Ok None else
-    join_in ids number line >>= (λ row. if nat_le MOST_ROWS (length rows) then Err (Limit number) else Ok (Some row))
-
 -- the rows of a file, or its first fault
 abbrev pub join_rows : ℕ → List ℕ → Result (List JoinRow) FaultKind
-join_rows ids bytes = rows_after (join_row ids) [] 1 (lines_of bytes)
+join_rows ids bytes = table_rows (join_in ids) bytes

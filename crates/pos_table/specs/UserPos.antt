@@ -1,19 +1,18 @@
 -- The rows of a file of a user's parts of speech: docs/FORMATS.md, "Parts of speech".
-use Rattle.std.specs.Prelude.{ℕ, ℤ, ◌==◌, Bool, not, List, [], ◌∷◌, Option, Some, None, Result, Ok, Err, if◌then◌else◌, length, nat_le, find}
+use Rattle.std.specs.Prelude.{ℕ, ℤ, ◌==◌, Bool, not, List, ◌∷◌, Option, Some, None, Result, Ok, Err, if◌then◌else◌, length, find}
 use Rattle.std.specs.Option.{option_map}
-use Rattle.std.specs.Str.{bytes_eq, chars, is_utf8}
+use Rattle.std.specs.Str.{chars}
 use Rattle.mz_base.specs.Answers.{◌>>=◌}
+use Rattle.mz_base.specs.ByName.{latest_by_name, same_name}
 use Rattle.mz_base.specs.Data.{is_text}
-use Rattle.mz_base.specs.Latest.{latest}
 use Rattle.mz_base.specs.Limits.{is_cost, is_long}
-use Rattle.mz_base.specs.Lines.{lines_of, fields_of}
+use Rattle.mz_base.specs.Lines.{fields_of}
 use Rattle.mz_base.specs.Numbers.{signed_of}
-use Rattle.mz_base.specs.Rows.{rows_after}
-use Rattle.mz_base.specs.declared.data.TheConstants.{MOST_ROWS}
+use Rattle.mz_base.specs.Rows.{table_rows}
 use Rattle.mz_base.specs.declared.data.IdRow.{IdRow}
 use Rattle.mz_base.specs.declared.data.PosRow.{PosRow}
 use Rattle.mz_base.specs.declared.fault.FaultKind.{FaultKind}
-use Rattle.mz_base.specs.declared.fault.FaultKind.TheVariants.{NotUtf8, Fields, Empty, Number, Range, NoFeature, Limit}
+use Rattle.mz_base.specs.declared.fault.FaultKind.TheVariants.{Fields, Empty, Number, Range, NoFeature, Limit}
 
 -- the fields of a row, before they are read
 pub record PosFields : Type 0 where
@@ -49,18 +48,13 @@ fields_pos ids number (Some row) =
 abbrev pub pos_in : List IdRow → ℕ → List ℕ → Result PosRow FaultKind
 pos_in ids number line = fields_pos ids number (pos_fields (fields_of line))
 
--- what the line with this number gives after these rows; an empty line gives none
-unfoldable pub pos_row : List IdRow → List PosRow → ℕ → List ℕ → Result (Option PosRow) FaultKind
-pos_row ids rows number line =
-    if not (is_utf8 line) then Err (NotUtf8 number) else
-    if length line == 0 then Ok None else
-    pos_in ids number line >>= (λ row. if nat_le MOST_ROWS (length rows) then Err (Limit number) else Ok (Some row))
+abbrev pub name_of : PosRow → List ℕ
+name_of row = row.name
 
 -- the rows have one name
 abbrev pub same_pos : PosRow → PosRow → Bool
-same_pos row other = bytes_eq row.name other.name
+same_pos = same_name name_of
 
--- the rows of a file, of repeated names the last; or its first fault
+-- the rows of a file, of one name the last, in the order of the names; or its first fault
 abbrev pub pos_rows : List IdRow → List ℕ → Result (List PosRow) FaultKind
-pos_rows ids bytes =
-    rows_after (pos_row ids) [] 1 (lines_of bytes) >>= (λ rows. Ok (latest same_pos rows))
+pos_rows ids bytes = table_rows (pos_in ids) bytes >>= (λ rows. Ok (latest_by_name name_of rows))

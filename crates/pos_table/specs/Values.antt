@@ -1,14 +1,12 @@
 -- The rows of the files of symbols and of single kanji: docs/FORMATS.md, "Symbols" and "Kanji".
-use Rattle.std.specs.Prelude.{ℕ, ◌==◌, ◌||◌, not, List, [], ◌∷◌, Option, Some, None, Result, Ok, Err, if◌then◌else◌, length, nat_le}
-use Rattle.std.specs.Str.{chars, is_utf8}
-use Rattle.mz_base.specs.Answers.{◌>>=◌}
+use Rattle.std.specs.Prelude.{ℕ, ◌==◌, ◌||◌, List, ◌∷◌, Option, Some, None, Result, Ok, Err, if◌then◌else◌, length}
+use Rattle.std.specs.Str.{chars}
 use Rattle.mz_base.specs.Limits.{is_long}
-use Rattle.mz_base.specs.Lines.{lines_of, fields_of}
-use Rattle.mz_base.specs.Rows.{rows_after}
-use Rattle.mz_base.specs.declared.data.TheConstants.{MOST_ROWS}
+use Rattle.mz_base.specs.Lines.{fields_of}
+use Rattle.mz_base.specs.Rows.{table_rows}
 use Rattle.mz_base.specs.declared.data.ValueRow.{ValueRow}
 use Rattle.mz_base.specs.declared.fault.FaultKind.{FaultKind}
-use Rattle.mz_base.specs.declared.fault.FaultKind.TheVariants.{NotUtf8, Fields, Empty, Limit}
+use Rattle.mz_base.specs.declared.fault.FaultKind.TheVariants.{Fields, Empty, Limit}
 
 -- the fields of a row, before they are read
 pub record ValueFields : Type 0 where
@@ -31,13 +29,6 @@ fields_value number (Some row) =
 abbrev pub value_in : ℕ → List ℕ → Result ValueRow FaultKind
 value_in number line = fields_value number (value_fields (fields_of line))
 
--- what the line with this number gives after these rows; an empty line gives none
-unfoldable pub value_row : List ValueRow → ℕ → List ℕ → Result (Option ValueRow) FaultKind
-value_row rows number line =
-    if not (is_utf8 line) then Err (NotUtf8 number) else
-    if length line == 0 then Ok None else
-    value_in number line >>= (λ row. if nat_le MOST_ROWS (length rows) then Err (Limit number) else Ok (Some row))
-
 -- the rows of a file, or its first fault
 abbrev pub value_rows : List ℕ → Result (List ValueRow) FaultKind
-value_rows bytes = rows_after value_row [] 1 (lines_of bytes)
+value_rows bytes = table_rows value_in bytes

@@ -7,10 +7,7 @@ ghost use Rattle.mz_base.specs.declared.data.TheConstants.{MOST_IDS};
 ghost use Rattle.pos_table.specs.JoinColumns.{fields_view, bounds_view};
 ghost use Rattle.pos_table.specs.Joins.{join_rows, join_in, join_fields, join_numbers, is_join};
 
-use mz_base::{
-    FaultKind, JoinRow, MOST_IDS, MOST_ROWS, ReadError, RowReader, cut_field, number, read_rows,
-    text_of_line,
-};
+use mz_base::{FaultKind, JoinRow, LineReader, MOST_IDS, ReadError, cut_field, number, read_table};
 use std::alloc::Global;
 use std::marker::Model;
 
@@ -34,8 +31,7 @@ pub fn read_joins(alloc: Global, bytes: &[u8], n_ids: u32) -> Result<Joins, Read
     requires { n_ids ≤ MOST_IDS }
     ensures { Gives (λ joins. joins) result (join_rows n_ids bytes.now) }
 {
-    let mut reader = JoinReader { ids: n_ids };
-    let rows = read_rows(alloc, &mut reader, Vec::new(alloc), bytes)?;
+    let rows = read_table(alloc, JoinReader { ids: n_ids }, bytes)?;
     Ok(Joins::from_rows(rows))
 }
 
@@ -76,32 +72,15 @@ struct JoinReader {
     ghost few: { ids ≤ MOST_IDS },
 }
 
-impl RowReader for JoinReader {
+impl LineReader for JoinReader {
     type Row = JoinRow;
 
-    ghost use Rattle.pos_table.specs.Joins.{join_row};
+    ghost use Rattle.pos_table.specs.Joins.{join_in};
 
-    ghost row_of = { λ reader. join_row reader.ids };
+    ghost row_in = { λ reader. join_in reader.ids };
 
-    #[tactic(auto, unfolding(crate::specs::Joins::join_row))]
-    fn read_row(
-        &mut self,
-        _alloc: Global,
-        rows: &[JoinRow],
-        number: u64,
-        line: &[u8],
-    ) -> Result<Option<JoinRow>, ReadError> {
-        let Some(text) = text_of_line(line) else {
-            return Err(FaultKind::NotUtf8(number).into());
-        };
-        if text.is_empty() {
-            return Ok(None);
-        }
-        let row = read_join(self.ids, number, text)?;
-        if MOST_ROWS <= rows.len() {
-            return Err(FaultKind::Limit(number).into());
-        }
-        Ok(Some(row))
+    fn read_line(&self, _alloc: Global, number: u64, line: &str) -> Result<JoinRow, ReadError> {
+        read_join(self.ids, number, line)
     }
 }
 

@@ -1,6 +1,10 @@
 ghost use Rattle.std.specs.Prelude.{◌≡◌, ◌≢◌, ◌↔◌, ◌<◌, ◌≤◌, ℕ, List, Some, None, Ok};
 ghost use Rattle.std.specs.List.{All, Contains};
+ghost use Rattle.std.specs.List.Sorted.{IsPermutation};
+ghost use Rattle.mz_base.specs.ByName.{RiseByName};
 ghost use Rattle.mz_base.specs.Data.{IsJoinSound};
+ghost use Rattle.mz_base.specs.Latest.{latest};
+ghost use Rattle.mz_base.specs.Rows.{table_rows};
 ghost use Rattle.mz_base.specs.declared.data.IdRow.{IdRow};
 ghost use Rattle.mz_base.specs.declared.data.JoinRow.{JoinRow};
 ghost use Rattle.mz_base.specs.declared.data.PosRow.{PosRow};
@@ -9,7 +13,7 @@ ghost use Rattle.pos_table.specs.Classes.{unknown_rows};
 ghost use Rattle.pos_table.specs.Ids.{RiseById, id_rows};
 ghost use Rattle.pos_table.specs.Joins.{join_rows};
 ghost use Rattle.pos_table.specs.Nodes.{AreIds, AreNodes, ArePosNodes};
-ghost use Rattle.pos_table.specs.UserPos.{id_of, pos_rows};
+ghost use Rattle.pos_table.specs.UserPos.{id_of, name_of, pos_in, pos_rows, same_pos};
 
 /// The rows that a file of unknown words gives are within their limits.
 pub fn unknown_rows_are_nodes()
@@ -37,6 +41,14 @@ pub fn id_of_is_least()
 /// The rows that a file of parts of speech gives are within their limits.
 pub fn pos_rows_are_nodes()
     ensures { (ids : ℕ) (features : List IdRow) (bytes : List ℕ) (rows : List PosRow) → AreIds ids features → pos_rows features bytes ≡ Ok rows → ArePosNodes ids rows }
+{}
+
+/// The rows that a file of parts of speech gives are those of its lines that no later row of their name repeats, and the
+/// names rise.
+pub fn pos_rows_rise()
+    ensures same { (features : List IdRow) (bytes : List ℕ) (all rows : List PosRow) → table_rows (pos_in features) bytes ≡ Ok all →
+        pos_rows features bytes ≡ Ok rows → IsPermutation (latest same_pos all) rows }
+    ensures rise { (features : List IdRow) (bytes : List ℕ) (rows : List PosRow) → pos_rows features bytes ≡ Ok rows → RiseByName name_of rows }
 {}
 
 /// The rows that a segment file gives are ranges of ids that there are.

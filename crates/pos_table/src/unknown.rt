@@ -8,8 +8,8 @@ ghost use Rattle.pos_table.specs.ClassColumns.{fields_view, node_view};
 ghost use Rattle.pos_table.specs.Classes.{class_fields, class_in, class_named, class_numbers, is_node, nodes_of, unknown_rows, node_of, last_node, has_class, same_class};
 
 use mz_base::{
-    Class, FaultKind, MOST_DIGITS, MOST_IDS, MOST_ROWS, ReadError, RowReader, UnknownRow,
-    cut_field, is_cost, number, read_rows, signed, text_of_line,
+    Class, FaultKind, LineReader, MOST_DIGITS, MOST_IDS, ReadError, UnknownRow, cut_field, is_cost,
+    number, read_table, signed,
 };
 use std::alloc::Global;
 use std::marker::Model;
@@ -39,8 +39,7 @@ pub fn read_unknown(alloc: Global, bytes: &[u8], n_ids: u32) -> Result<Unknown, 
     requires { n_ids ≤ MOST_IDS }
     ensures { Gives (λ unknown. unknown) result (unknown_rows n_ids bytes.now) }
 {
-    let mut reader = ClassReader { ids: n_ids };
-    let rows = read_rows(alloc, &mut reader, Vec::new(alloc), bytes)?;
+    let rows = read_table(alloc, ClassReader { ids: n_ids }, bytes)?;
     Ok(unknown_of(rows.as_slice()))
 }
 
@@ -142,32 +141,15 @@ struct ClassReader {
     ghost few: { ids ≤ MOST_IDS },
 }
 
-impl RowReader for ClassReader {
+impl LineReader for ClassReader {
     type Row = ClassRow;
 
-    ghost use Rattle.pos_table.specs.Classes.{class_row};
+    ghost use Rattle.pos_table.specs.Classes.{class_in};
 
-    ghost row_of = { λ reader. class_row reader.ids };
+    ghost row_in = { λ reader. class_in reader.ids };
 
-    #[tactic(auto, unfolding(crate::specs::Classes::class_row))]
-    fn read_row(
-        &mut self,
-        _alloc: Global,
-        rows: &[ClassRow],
-        number: u64,
-        line: &[u8],
-    ) -> Result<Option<ClassRow>, ReadError> {
-        let Some(text) = text_of_line(line) else {
-            return Err(FaultKind::NotUtf8(number).into());
-        };
-        if text.is_empty() {
-            return Ok(None);
-        }
-        let row = read_class(self.ids, number, text)?;
-        if MOST_ROWS <= rows.len() {
-            return Err(FaultKind::Limit(number).into());
-        }
-        Ok(Some(row))
+    fn read_line(&self, _alloc: Global, number: u64, line: &str) -> Result<ClassRow, ReadError> {
+        read_class(self.ids, number, line)
     }
 }
 

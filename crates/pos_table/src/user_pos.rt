@@ -9,8 +9,8 @@ ghost use Rattle.pos_table.specs.UserPos.{pos_rows, pos_in, pos_fields, id_of};
 
 use crate::Ids;
 use mz_base::{
-    FaultKind, IdRow, MOST_DIGITS, MOST_ROWS, PosRow, ReadError, RowReader, Text, cut_field,
-    is_cost, is_long, keep_latest, read_rows, signed, text_of_line,
+    FaultKind, IdRow, LineReader, MOST_DIGITS, PosRow, ReadError, Text, cut_field, is_cost,
+    is_long, latest_by_name, read_table, signed,
 };
 use std::alloc::Global;
 use std::marker::Model;
@@ -34,9 +34,8 @@ impl Model for UserPos {
 pub fn read_user_pos(alloc: Global, bytes: &[u8], ids: &Ids) -> Result<UserPos, ReadError>
     ensures { Gives (λ pos. pos) result (pos_rows ids.now bytes.now) }
 {
-    let mut reader = PosReader { ids: ids.rows() };
-    let rows = read_rows(alloc, &mut reader, Vec::new(alloc), bytes)?;
-    Ok(UserPos::from_rows(keep_latest(alloc, rows)?))
+    let rows = read_table(alloc, PosReader { ids: ids.rows() }, bytes)?;
+    Ok(UserPos::from_rows(latest_by_name(alloc, rows)?))
 }
 
 impl UserPos {
@@ -46,7 +45,7 @@ impl UserPos {
         UserPos { rows }
     }
 
-    /// The rows whose name no later one has, in the order of the file.
+    /// The rows, in their order; those of a file, in the order of their names.
     pub fn rows(&self) -> &[PosRow]
         ensures { result.now ≡ self.now }
     {
@@ -76,32 +75,15 @@ struct PosReader<'a> {
     ids: &'a [IdRow],
 }
 
-impl RowReader for PosReader<'_> {
+impl LineReader for PosReader<'_> {
     type Row = PosRow;
 
-    ghost use Rattle.pos_table.specs.UserPos.{pos_row};
+    ghost use Rattle.pos_table.specs.UserPos.{pos_in};
 
-    ghost row_of = { λ reader. pos_row reader.ids.now };
+    ghost row_in = { λ reader. pos_in reader.ids.now };
 
-    #[tactic(auto, unfolding(crate::specs::UserPos::pos_row))]
-    fn read_row(
-        &mut self,
-        alloc: Global,
-        rows: &[PosRow],
-        number: u64,
-        line: &[u8],
-    ) -> Result<Option<PosRow>, ReadError> {
-        let Some(text) = text_of_line(line) else {
-            return Err(FaultKind::NotUtf8(number).into());
-        };
-        if text.is_empty() {
-            return Ok(None);
-        }
-        let row = read_pos(alloc, self.ids, number, text)?;
-        if MOST_ROWS <= rows.len() {
-            return Err(FaultKind::Limit(number).into());
-        }
-        Ok(Some(row))
+    fn read_line(&self, alloc: Global, number: u64, line: &str) -> Result<PosRow, ReadError> {
+        read_pos(alloc, self.ids, number, line)
     }
 }
 

@@ -4,49 +4,29 @@ ghost use Rattle.mz_base.specs.Lines.{fields_of};
 ghost use Rattle.pos_table.specs.ValueColumns.{fields_view};
 ghost use Rattle.pos_table.specs.Values.{value_fields, value_in, value_rows};
 
-use mz_base::{
-    FaultKind, MOST_ROWS, ReadError, RowReader, Text, ValueRow, cut_field, is_long, read_rows,
-    text_of_line,
-};
+use mz_base::{FaultKind, LineReader, ReadError, Text, ValueRow, cut_field, is_long, read_table};
 use std::alloc::Global;
 
 /// The rows of a file of values: readings and what they stand for.
 pub fn read_values(alloc: Global, bytes: &[u8]) -> Result<Vec<ValueRow>, ReadError>
     ensures { Gives (λ rows. rows.items) result (value_rows bytes.now) }
 {
-    read_rows(alloc, &mut ValueReader, Vec::new(alloc), bytes)
+    read_table(alloc, ValueReader, bytes)
 }
 
 /// Reads the rows of a file of values, line by line.
 #[derive(Drop)]
 struct ValueReader;
 
-impl RowReader for ValueReader {
+impl LineReader for ValueReader {
     type Row = ValueRow;
 
-    ghost use Rattle.pos_table.specs.Values.{value_row};
+    ghost use Rattle.pos_table.specs.Values.{value_in};
 
-    ghost row_of = { λ _. value_row };
+    ghost row_in = { λ _. value_in };
 
-    #[tactic(auto, unfolding(crate::specs::Values::value_row))]
-    fn read_row(
-        &mut self,
-        alloc: Global,
-        rows: &[ValueRow],
-        number: u64,
-        line: &[u8],
-    ) -> Result<Option<ValueRow>, ReadError> {
-        let Some(text) = text_of_line(line) else {
-            return Err(FaultKind::NotUtf8(number).into());
-        };
-        if text.is_empty() {
-            return Ok(None);
-        }
-        let row = read_value(alloc, number, text)?;
-        if MOST_ROWS <= rows.len() {
-            return Err(FaultKind::Limit(number).into());
-        }
-        Ok(Some(row))
+    fn read_line(&self, alloc: Global, number: u64, line: &str) -> Result<ValueRow, ReadError> {
+        read_value(alloc, number, line)
     }
 }
 
