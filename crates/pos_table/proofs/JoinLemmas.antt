@@ -35,4 +35,4 @@ fields-sound ids number (Some fields) row given = ranged-sound ids number (join_
 
 pub joins-sound : (ids : ℕ) (bytes : List ℕ) (rows : List JoinRow) → join_rows ids bytes ≡ Ok rows → All (IsJoinSound ids) rows
 joins-sound ids bytes rows given =
-    table_rows-All (IsJoinSound ids) (join_in ids) (λ number line row given. fields-sound ids number (join_fields (fields_of line)) row given) bytes rows given
+    table_rows-All (IsJoinSound ids) (join_in ids) (λ number line row text given. fields-sound ids number (join_fields (fields_of line)) row given) bytes rows given

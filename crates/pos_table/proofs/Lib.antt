@@ -5,3 +5,4 @@ pub mod JoinLemmas
 pub mod LatestLemmas
 pub mod NodeLemmas
 pub mod PosLemmas
+pub mod ShortTexts

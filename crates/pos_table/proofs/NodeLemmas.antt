@@ -83,4 +83,4 @@ read-AreNodes ids (Ok all) rows some each given =
 
 pub AreNodes-read : (ids : ℕ) (bytes : List ℕ) (rows : List UnknownRow) → 0 < ids → unknown_rows ids bytes ≡ Ok rows → AreNodes ids rows
 AreNodes-read ids bytes rows some given =
-    read-AreNodes ids (table_rows (class_in ids) bytes) rows some (λ all read. AllByRecursion-All (HasNode ids) all (table_rows-All (HasNode ids) (class_in ids) (λ number line row given. fields-HasNode ids number (class_fields (fields_of line)) row given) bytes all read)) given
+    read-AreNodes ids (table_rows (class_in ids) bytes) rows some (λ all read. AllByRecursion-All (HasNode ids) all (table_rows-All (HasNode ids) (class_in ids) (λ number line row text given. fields-HasNode ids number (class_fields (fields_of line)) row given) bytes all read)) given

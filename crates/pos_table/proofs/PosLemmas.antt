@@ -30,7 +30,7 @@ use Rattle.pos_table.specs.Nodes.{AreIds, ArePosNodes}
 use Rattle.pos_table.specs.UserPos.{PosFields, featured, fields_pos, id_of, name_of, pos_fields, pos_in, pos_rows, priced, same_pos}
 
 -- what is found is one of them
-found-has : {A : Type 0} (P : A → Type 0) (p : A → Bool) (xs : List A) (x : A) → AllByRecursion P xs → find p xs ≡ Some x → P x
+pub found-has : {A : Type 0} (P : A → Type 0) (p : A → Bool) (xs : List A) (x : A) → AllByRecursion P xs → find p xs ≡ Some x → P x
 found-has P p [] x all found = absurd cc
 found-has P p (first ∷ xs) x all found =
     elim (cases_Bool (p first)) [
@@ -120,7 +120,7 @@ pub ArePosNodes-read : (ids : ℕ) (features : List IdRow) (bytes : List ℕ) (r
 ArePosNodes-read ids features bytes rows are given =
     let (all, read, kept) = part_gave (table_rows (pos_in features) bytes) _ rows given in
     let same : latest_by_name name_of all ≡ rows = cc in
-    subst (ArePosNodes ids) same (latest-ArePosNodes ids all (recursion_from_All (HasNode ids) all (table_rows-All (HasNode ids) (pos_in features) (λ number line row given. fields-HasNode ids features number (pos_fields (fields_of line)) row are given) bytes all read)))
+    subst (ArePosNodes ids) same (latest-ArePosNodes ids all (recursion_from_All (HasNode ids) all (table_rows-All (HasNode ids) (pos_in features) (λ number line row text given. fields-HasNode ids features number (pos_fields (fields_of line)) row are given) bytes all read)))
 
 -- the names rise
 pub RiseByName-read : (features : List IdRow) (bytes : List ℕ) (rows : List PosRow) → pos_rows features bytes ≡ Ok rows → RiseByName name_of rows
