@@ -5,7 +5,7 @@ use Rattle.std.specs.List.{All, AllByRecursion, find}
 use Rattle.std.specs.Option.{option_map}
 use Rattle.std.proofs.lemmas.Bool.{cases_Bool}
 use Rattle.std.proofs.lemmas.List.Elements.{All-nil}
-use Rattle.mz_base.specs.Data.{AreDataSound, DataLists, IsCost, IsJoinSound, IsNode, class_place, connection, is_text, join_at, no_join, no_unknown, no_word, pos_of, unknown_of, word_at}
+use Rattle.mz_base.specs.Data.{AreDataSound, AreTextsShort, DataLists, IsCost, IsJoinSound, IsNode, IsRuleShort, IsShort, IsValueShort, class_place, connection, is_text, join_at, no_join, no_unknown, no_word, pos_of, unknown_of, word_at}
 use Rattle.mz_base.specs.Kana.{AreRules}
 use Rattle.mz_base.specs.Lines.{lines_of}
 use Rattle.mz_base.specs.declared.data.IdRow.{IdRow}
@@ -17,7 +17,7 @@ use Rattle.mz_base.specs.declared.data.WordRow.{WordRow}
 use Rattle.mz_base.specs.declared.fault.Fault.{Fault}
 use Rattle.mz_base.specs.declared.fault.FaultKind.{FaultKind}
 use Rattle.mz_base.specs.declared.fault.Role.{Role}
-use Rattle.mz_base.specs.declared.fault.Role.TheVariants.{Connection, Id, Segment, Unk, UserPos, Romaji, Dictionary}
+use Rattle.mz_base.specs.declared.fault.Role.TheVariants.{Connection, Id, Kanji, Segment, Symbol, Unk, UserPos, Romaji, Dictionary}
 use Rattle.mz_base.specs.declared.romaji.Rule.{Rule}
 use Rattle.mz_base.proofs.LimitLemmas.{IsCost-from_test}
 use Rattle.conn_matrix.specs.Costs.{CostTable, IsTable, table_in}
@@ -31,6 +31,9 @@ use Rattle.pos_table.specs.Nodes.{AreIds, AreNodes, ArePosNodes}
 use Rattle.pos_table.specs.UserPos.{pos_rows}
 use Rattle.pos_table.specs.Joins.{join_rows}
 use Rattle.pos_table.proofs.JoinLemmas.{joins-sound}
+use Rattle.pos_table.proofs.ShortTexts.{features-short, names-short, values-short}
+use Rattle.pos_table.specs.Values.{value_rows}
+use Rattle.romaji_table.proofs.ShortRules.{rules-short}
 use Rattle.pos_table.proofs.NodeLemmas.{AreNodes-read}
 use Rattle.pos_table.proofs.PosLemmas.{AreIds-read, ArePosNodes-read}
 use Rattle.romaji_table.specs.Rows.{romaji_rows}
@@ -99,9 +102,9 @@ found-IsNode ids p (row ∷ names) are =
     ]
 
 -- data of such parts
-made-sound : (table : CostTable) (features : List IdRow) (unknown : List UnknownRow) (joins : List JoinRow) (names : List PosRow) (rules : List Rule) (words : List WordRow) (symbols kanji : List ValueRow) → IsTable table → AreNodes table.size unknown → ArePosNodes table.size names → AreRules rules → AreWords table.size words → All (IsJoinSound table.size) joins → AreDataSound (record { ids = table.size; costs = table.costs; features = features; unknown = unknown; joins = joins; pos = names; rules = rules; words = words; symbols = symbols; kanji = kanji })
+made-sound : (table : CostTable) (features : List IdRow) (unknown : List UnknownRow) (joins : List JoinRow) (names : List PosRow) (rules : List Rule) (words : List WordRow) (symbols kanji : List ValueRow) → IsTable table → AreNodes table.size unknown → ArePosNodes table.size names → AreRules rules → AreWords table.size words → All (IsJoinSound table.size) joins → AreTextsShort (record { ids = table.size; costs = table.costs; features = features; unknown = unknown; joins = joins; pos = names; rules = rules; words = words; symbols = symbols; kanji = kanji }) → AreDataSound (record { ids = table.size; costs = table.costs; features = features; unknown = unknown; joins = joins; pos = names; rules = rules; words = words; symbols = symbols; kanji = kanji })
 unfolding connection unknown_of pos_of word_at join_at
-made-sound table features unknown joins names rules words symbols kanji is nodes parts are_rules are_words are_joins =
+made-sound table features unknown joins names rules words symbols kanji is nodes parts are_rules are_words are_joins are_short =
     record {
       some_ids = is.some;
       few_ids = is.square.few;
@@ -112,6 +115,7 @@ made-sound table features unknown joins names rules words symbols kanji is nodes
       words = λ i inside. are_words.sound i no_word inside;
       homophones = are_words.homophones;
       segments = λ i inside. are_joins i no_join inside;
+      texts = are_short;
       rules_sound = are_rules;
     }
 
@@ -139,4 +143,11 @@ AreDataSound-given files given is =
     let are_rules = file-has AreRules Romaji [] romaji_rows files rules (record { each = tt; distinct = tt }) AreRules-read rules_is in
     let are_words = words-AreWords table.size [] 1 (files_of Dictionary files) words (AreWords-none table.size) words_is in
     let are_joins = file-has (All (IsJoinSound table.size)) Segment [] (join_rows table.size) files joins (All-nil (IsJoinSound table.size)) (joins-sound table.size) joins_is in
-    given-sound (record { ids = table.size; costs = table.costs; features = features; unknown = unknown; joins = joins; pos = names; rules = rules; words = words; symbols = symbols; kanji = kanji }) _ given refl after_kanji (made-sound table features unknown joins names rules words symbols kanji square nodes parts are_rules are_words are_joins)
+    let are_short : AreTextsShort (record { ids = table.size; costs = table.costs; features = features; unknown = unknown; joins = joins; pos = names; rules = rules; words = words; symbols = symbols; kanji = kanji }) = record {
+      features = file-has (All (λ (row : IdRow). IsShort row.feature)) Id [] (id_rows table.size) files features (All-nil _) (features-short table.size) features_is;
+      parts = file-has (All (λ (row : PosRow). IsShort row.name)) UserPos [] (pos_rows features) files names (All-nil _) (names-short features) names_is;
+      rules = file-has (All IsRuleShort) Romaji [] romaji_rows files rules (All-nil _) rules-short rules_is;
+      symbols = file-has (All IsValueShort) Symbol [] value_rows files symbols (All-nil _) values-short symbols_is;
+      kanji = file-has (All IsValueShort) Kanji [] value_rows files kanji (All-nil _) values-short kanji_is;
+    } in
+    given-sound (record { ids = table.size; costs = table.costs; features = features; unknown = unknown; joins = joins; pos = names; rules = rules; words = words; symbols = symbols; kanji = kanji }) _ given refl after_kanji (made-sound table features unknown joins names rules words symbols kanji square nodes parts are_rules are_words are_joins are_short)
