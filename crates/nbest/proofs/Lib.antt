@@ -7,3 +7,4 @@ pub mod SearchLemmas
 pub mod SignedLemmas
 pub mod StepLemmas
 pub mod TailLemmas
+pub mod ValueLemmas

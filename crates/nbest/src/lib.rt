@@ -1,5 +1,5 @@
-//! All paths over a span of a lattice, in order, each once. Start at [`NBest`]. What the order of paths is:
-//! `conversion_meaning`, and docs/CONVERSION.md.
+//! All paths over a span of a lattice, in order, each once; and the first values of the span. Start at [`NBest`] and
+//! [`distinct`]. What the order of paths and the values of a span are: `conversion_meaning`, and docs/CONVERSION.md.
 #![tactic(auto)]
 
 mod costs;
@@ -9,6 +9,10 @@ mod join;
 mod queue;
 mod search;
 mod tail;
+#[cfg(test)]
+mod tests;
+mod values;
 
 pub use found::Found;
 pub use search::NBest;
+pub use values::distinct;
