@@ -1,9 +1,9 @@
 -- Items that rise are the bounds that they spell.
-use Rattle.std.proofs.Common.{◌≡◌, ℕ, ◌+◌, Bool, true, false, ◌&&◌, List, [], ◌∷◌, Option, Some, None, option_and_then, option_map, is_some, length, if◌then◌else◌, nat_lt, nat_le, refl, sym, ap, ◌∙◌}
+use Rattle.std.proofs.Common.{◌≡◌, ℕ, ◌+◌, Bool, true, false, ◌&&◌, List, [], ◌∷◌, Option, Some, None, option_and_then, option_map, is_some, length, if◌then◌else◌, nat_lt, nat_le, refl, sym, ◌∙◌}
 use Rattle.std.specs.Borrow.{Bor}
 use Rattle.mz_base.specs.Numbers.{number_of}
 use Rattle.cert_text.specs.Fields.{only_if, values_of, rises}
-use Rattle.mozc_cli.specs.BoundTexts.{next_bound, rise_on, has_bound}
+use Rattle.mozc_cli.specs.BoundTexts.{rise_on, has_bound}
 
 is_some-if : {A : Type 0} (b : Bool) (value : A) → is_some (if b then Some value else None) ≡ b
 is_some-if true value = refl

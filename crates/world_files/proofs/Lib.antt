@@ -1,0 +1,5 @@
+pub mod LineCounts
+pub mod ListingSteps
+pub mod ReadLaws
+pub mod ScriptSteps
+pub mod SetFiles
