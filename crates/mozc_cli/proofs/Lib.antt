@@ -1,3 +1,2 @@
-pub mod BoundLemmas
 pub mod Runs
 pub mod Settling

@@ -1,6 +1,4 @@
-pub mod ArgForms
 pub mod Args
-pub mod BoundTexts
 pub mod Conversions
 pub mod Core
 pub mod Printed

@@ -18,7 +18,7 @@ abbrev pub TellsMeant : (Result Meant Refusal → Type 0) → Result Output Refu
 TellsMeant Gives (Ok output) = Gives (Ok (shown output))
 TellsMeant Gives (Err refused) = UnlessFree refused (Gives (Err refused))
 
--- the output was written: whole, or a front of it
+-- the output was written: whole, or a prefix of it
 abbrev pub Writes : Meant → Option (List ℕ) → Option (List ℕ) → Status → Type 0
 Writes output before after status.Ok = (output.unmet ≡ false) × (after ≡ with_more before output.text)
 Writes output before after status.Unmet = (output.unmet ≡ true) × (after ≡ with_more before output.text)

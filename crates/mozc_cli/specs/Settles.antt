@@ -14,13 +14,14 @@ use Rattle.mz_base.specs.declared.status.Limit.TheVariants.{Report}
 use Rattle.mz_base.specs.declared.status.Status.{Status}
 use Rattle.mz_base.specs.declared.status.Status.TheVariants as status
 use Rattle.mz_outside.specs.Taken.{with_more, AddsFront}
-use Rattle.mozc_cli.specs.Args.{Asked, run, check, convert, verify}
 use Rattle.mozc_cli.specs.Conversions.{IsAnswerTo, IsVerdictOn}
 use Rattle.mozc_cli.specs.Core.{State, play, run_order, start}
 use Rattle.world_files.specs.Queries.{Claimed, query_set, query_claim}
 use Rattle.world_files.specs.Reading.{Files, UnlessFree}
 use Rattle.mozc_cli.specs.Texts.{report_text}
 use Rattle.world_files.specs.Worlds.{World, world, listing}
+use Rattle.mozc_cli.specs.declared.args.Request.{Request}
+use Rattle.mozc_cli.specs.declared.args.Request.TheVariants as request
 use Rattle.mozc_cli.specs.declared.outputs.TheConstants.{MOST_OUTPUT_BYTES}
 use Rattle.world_files.specs.declared.refusal.Refusal.{Refusal}
 use Rattle.world_files.specs.declared.refusal.Refusal.TheVariants as refusal
@@ -94,11 +95,11 @@ MeansVerdict key (Ok claimed) meant =
     (verdict : Result (Unit {0}) CertFault) × IsVerdictOn claimed.set key claimed.certificate verdict × (meant ≡ verdict_output claimed.certificate verdict)
 
 -- What a command gives: what it writes, or the first refusal in the order of work.
-abbrev pub Means : Files → Asked → Result Output Refusal → Type 0
-Means files (run name) meant = meant ≡ run_meant files name
-Means files (check name) meant = meant ≡ check_meant files name
-Means files (convert query bounds) meant = MeansAnswer query.key bounds (query_set files query) meant
-Means files (verify query name) meant = MeansVerdict query.key (query_claim files query name) meant
+abbrev pub Means : Files → Request → Result Output Refusal → Type 0
+Means files (request.Run name) meant = meant ≡ run_meant files name
+Means files (request.Check name) meant = meant ≡ check_meant files name
+Means files (request.Convert query bounds) meant = MeansAnswer query.key bounds (query_set files query) meant
+Means files (request.Verify query name) meant = MeansVerdict query.key (query_claim files query name) meant
 
 -- the output was written whole, and each expectation is met in it, or not
 pub record IsWritten (Gives : Result Output Refusal → Type 0) (unmet : Bool) (before after : Option (List ℕ)) : Type 0 where
@@ -106,7 +107,7 @@ pub record IsWritten (Gives : Result Output Refusal → Type 0) (unmet : Bool) (
   pub gives : Gives (Ok (record { text = text; unmet = unmet }))
   pub written : after ≡ with_more before text
 
--- a front of the output was written
+-- a prefix of the output was written
 pub record IsCutShort (Gives : Result Output Refusal → Type 0) (before after : Option (List ℕ)) : Type 0 where
   pub output : Output
   pub gives : Gives (Ok output)

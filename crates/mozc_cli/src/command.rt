@@ -2,8 +2,8 @@ ghost use Rattle.std.specs.Prelude.{◌≡◌, ◌≢◌, ◌↔◌, map, Some, 
 ghost use Rattle.std.specs.String.{string_bytes};
 ghost use Rattle.mz_outside.specs.Causes.{Rose};
 ghost use Rattle.world_files.specs.Reading.{Files};
-ghost use Rattle.mozc_cli.specs.ArgForms.{HasKey, asked_for};
-ghost use Rattle.mozc_cli.specs.Args.{Asked, parse};
+ghost use Rattle.mozc_cli.specs.Args.{IsFit, parse};
+ghost use Rattle.mozc_cli.specs.declared.args.Request.{Request};
 ghost use Rattle.mozc_cli.specs.Settles.{Means, Settles, IsSilent};
 
 use crate::args::{Request, parse};
@@ -30,7 +30,7 @@ pub fn local<S: Store, K: Sink>(
 
     // Where the store tells its files, each other status says what they give, and what was written is that: of `run`, the
     // report of the one-thread run in the order that it prints.
-    ensures settled { (files : Files) (request : Asked) → S.files store.old ≡ Some files → parse (map string_bytes words.now) ≡ Some request →
+    ensures settled { (files : Files) (request : Request) → S.files store.old ≡ Some files → parse (map string_bytes words.now) ≡ Some request →
         Settles (Means files request) (K.bytes sink.old) (K.bytes sink.new) result }
 
     // A refused call writes nothing, whatever the store tells.
@@ -45,20 +45,20 @@ pub fn local<S: Store, K: Sink>(
     ensures same { S.files store.new ≡ S.files store.old }
 {
     match parse(words) {
-        Some(request) => answer(alloc, request, store, sink),
+        Some(request) => answer(alloc, &request, store, sink),
         None => Status::Usage,
     }
 }
 
 fn answer<S: Store, K: Sink>(
     alloc: Global,
-    request: Request<'_>,
+    request: &Request<'_>,
     store: &mut S,
     sink: &mut K,
 ) -> Status
-    requires { HasKey request }
+    requires { IsFit request.now }
     ensures usage { result ≢ Status.Usage }
-    ensures settled { (files : Files) → S.files store.old ≡ Some files → Settles (Means files (asked_for request.entry)) (K.bytes sink.old) (K.bytes sink.new) result }
+    ensures settled { (files : Files) → S.files store.old ≡ Some files → Settles (Means files request.now) (K.bytes sink.old) (K.bytes sink.new) result }
     ensures silent { IsSilent (K.bytes sink.old) (K.bytes sink.new) result }
     ensures read_fault { result ≡ Status.ReadFault → Rose (S.faults store.old) (S.faults store.new) }
     ensures write_fault { result ≡ Status.WriteFault → Rose (K.faults sink.old) (K.faults sink.new) }

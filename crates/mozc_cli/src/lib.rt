@@ -4,7 +4,6 @@
 #![tactic(auto)]
 
 mod args;
-mod bounds;
 mod command;
 mod convert;
 mod laws;
@@ -15,7 +14,7 @@ mod run;
 mod session;
 mod statuses;
 
-pub use args::{Request, Words};
+pub use args::Request;
 pub use command::local;
 pub use laws::run_order_is_complete;
 pub use outputs::{MOST_OUTPUT_BYTES, Output};

@@ -1,20 +1,17 @@
 ghost use Rattle.std.specs.Prelude.{◌≡◌, ◌≢◌, ◌++◌, ◌<◌, Some, Ok, Err, IfOk, codes, length};
 ghost use Rattle.std.specs.Fmt.{signed_decimal};
 ghost use Rattle.std.specs.Option.{option_copied};
-ghost use Rattle.std.specs.Str.{chars};
 ghost use Rattle.cert_text.specs.Texts.{certificate_text};
 ghost use Rattle.conversion_meaning.specs.Lattices.{AreBounds, IsKey};
 ghost use Rattle.world_files.specs.Loaded.{world_of};
 ghost use Rattle.world_files.specs.Queries.{query_set, query_claim};
 ghost use Rattle.world_files.specs.Reading.{Files, Reads, Tells};
-ghost use Rattle.mozc_cli.specs.ArgForms.{HasKey, asked_for, query_of};
-ghost use Rattle.mozc_cli.specs.BoundTexts.{bounds_for};
+ghost use Rattle.mozc_cli.specs.Args.{IsFit};
 ghost use Rattle.mozc_cli.specs.Reported.{shown, TellsMeant};
 ghost use Rattle.mozc_cli.specs.Settles.{Means, MeansAnswer, MeansVerdict, has_differs, list_output, run_output, run_meant, check_meant, limited};
 ghost use Rattle.mozc_cli.specs.Texts.{client_name};
 
-use crate::args::{Request, Words};
-use crate::bounds::bounds_for;
+use crate::args::Request;
 use crate::convert::{convert, verify};
 use crate::report::print;
 use crate::run::serve;
@@ -22,7 +19,9 @@ use engine::Engine;
 use mz_base::{Certificate, DataSet, Limit, Line, NoMemory, Text, Word};
 use mz_outside::Store;
 use std::alloc::Global;
-use world_files::{Loaded, Plan, Query, Refusal, read_claim, read_listing, read_set, read_world};
+use world_files::{
+    Bounds, Loaded, Name, Plan, Query, Refusal, read_claim, read_listing, read_set, read_world,
+};
 
 /// The most bytes of an output.
 pub const MOST_OUTPUT_BYTES: usize = 1 << 30;
@@ -37,25 +36,25 @@ pub struct Output {
 pub fn output_for<S: Store>(
     alloc: Global,
     store: &mut S,
-    request: Request<'_>,
+    request: &Request<'_>,
 ) -> Result<Output, Refusal>
-    requires { HasKey request }
-    ensures told { (files : Files) → S.files store.old ≡ Some files → TellsMeant (Means files (asked_for request.entry)) result }
+    requires { IsFit request.now }
+    ensures told { (files : Files) → S.files store.old ≡ Some files → TellsMeant (Means files request.now) result }
     ensures reads { Reads (S.files store.old) (S.files store.new) (S.faults store.old) (S.faults store.new) result }
 {
     match request {
         Request::Run(name) => report_in(alloc, store, name),
         Request::Check(name) => listing_in(alloc, store, name),
-        Request::Convert(words, bounds) => conversion_in(alloc, store, words, bounds),
-        Request::Verify(words, name) => verdict_in(alloc, store, words, name),
+        Request::Convert(query, bounds) => conversion_in(alloc, store, query, bounds),
+        Request::Verify(query, name) => verdict_in(alloc, store, query, name),
     }
 }
 
-fn report_in<S: Store>(alloc: Global, store: &mut S, name: &str) -> Result<Output, Refusal>
-    ensures told { (files : Files) → S.files store.old ≡ Some files → Tells shown result (run_meant files (chars name.now)) }
+fn report_in<S: Store>(alloc: Global, store: &mut S, name: &Name<'_>) -> Result<Output, Refusal>
+    ensures told { (files : Files) → S.files store.old ≡ Some files → Tells shown result (run_meant files name.now) }
     ensures reads { Reads (S.files store.old) (S.files store.new) (S.faults store.old) (S.faults store.new) result }
 {
-    let name = Text::from_str(alloc, name)?;
+    let name = name.to_text(alloc)?;
     let world = read_world(alloc, store, &name)?;
     report_in_limit(alloc, &world)
 }
@@ -67,11 +66,11 @@ fn report_in_limit(alloc: Global, world: &Loaded) -> Result<Output, Refusal>
     limited(report_of(alloc, world)?)
 }
 
-fn listing_in<S: Store>(alloc: Global, store: &mut S, name: &str) -> Result<Output, Refusal>
-    ensures told { (files : Files) → S.files store.old ≡ Some files → Tells shown result (check_meant files (chars name.now)) }
+fn listing_in<S: Store>(alloc: Global, store: &mut S, name: &Name<'_>) -> Result<Output, Refusal>
+    ensures told { (files : Files) → S.files store.old ≡ Some files → Tells shown result (check_meant files name.now) }
     ensures reads { Reads (S.files store.old) (S.files store.new) (S.faults store.old) (S.faults store.new) result }
 {
-    let name = Text::from_str(alloc, name)?;
+    let name = name.to_text(alloc)?;
     let text = read_listing(alloc, store, &name)?;
     limited(Output { text, unmet: false })
 }
@@ -79,17 +78,17 @@ fn listing_in<S: Store>(alloc: Global, store: &mut S, name: &str) -> Result<Outp
 fn conversion_in<S: Store>(
     alloc: Global,
     store: &mut S,
-    words: Words<'_>,
-    bounds: Option<&str>,
+    query: &Query<'_>,
+    bounds: &Bounds<'_>,
 ) -> Result<Output, Refusal>
-    requires { 0 < length (chars words.key.now) }
-    ensures told { (files : Files) → S.files store.old ≡ Some files →
-        TellsMeant (MeansAnswer (chars words.entry.key.now) (bounds_for (length (chars words.entry.key.now)) (option_copied bounds.entry)) (query_set files (query_of words.entry))) result }
+    requires some { 0 < length query.now.key }
+    requires bounds { AreBounds query.now.key bounds.now }
+    ensures told { (files : Files) → S.files store.old ≡ Some files → TellsMeant (MeansAnswer query.now.key bounds.now (query_set files query.now)) result }
     ensures reads { Reads (S.files store.old) (S.files store.new) (S.faults store.old) (S.faults store.new) result }
 {
-    let query = query_of(alloc, words)?;
-    match read_set(alloc, store, &query) {
-        Ok(set) => converted(alloc, &set, query.key.as_chars(), bounds),
+    let key = query.key.to_text(alloc)?;
+    match read_set(alloc, store, query) {
+        Ok(set) => converted(alloc, &set, key.as_chars(), bounds),
         Err(refusal) => Err(refusal),
     }
 }
@@ -97,43 +96,33 @@ fn conversion_in<S: Store>(
 fn verdict_in<S: Store>(
     alloc: Global,
     store: &mut S,
-    words: Words<'_>,
-    name: &str,
+    query: &Query<'_>,
+    name: &Name<'_>,
 ) -> Result<Output, Refusal>
-    requires { 0 < length (chars words.key.now) }
-    ensures told { (files : Files) → S.files store.old ≡ Some files →
-        TellsMeant (MeansVerdict (chars words.entry.key.now) (query_claim files (query_of words.entry) (chars name.now))) result }
+    requires { 0 < length query.now.key }
+    ensures told { (files : Files) → S.files store.old ≡ Some files → TellsMeant (MeansVerdict query.now.key (query_claim files query.now name.now)) result }
     ensures reads { Reads (S.files store.old) (S.files store.new) (S.faults store.old) (S.faults store.new) result }
 {
-    let query = query_of(alloc, words)?;
-    let name = Text::from_str(alloc, name)?;
-    match read_claim(alloc, store, &query, &name) {
-        Ok(claim) => judged(alloc, &claim.set, query.key.as_chars(), &claim.certificate),
+    let key = query.key.to_text(alloc)?;
+    let name = name.to_text(alloc)?;
+    match read_claim(alloc, store, query, &name) {
+        Ok(claim) => judged(alloc, &claim.set, key.as_chars(), &claim.certificate),
         Err(refusal) => Err(refusal),
     }
-}
-
-fn query_of(alloc: Global, words: Words<'_>) -> Result<Query, NoMemory>
-    ensures { IfOk result (λ query. query ≡ query_of words.entry) }
-{
-    Ok(Query {
-        manifest: Text::from_str(alloc, words.manifest)?,
-        set: Text::from_str(alloc, words.set)?,
-        key: Text::from_str(alloc, words.key)?,
-    })
 }
 
 fn converted<D: DataSet>(
     alloc: Global,
     set: &D,
     key: &[char],
-    bounds: Option<&str>,
+    bounds: &Bounds<'_>,
 ) -> Result<Output, Refusal>
     requires key { IsKey key.now }
-    ensures told { TellsMeant (MeansAnswer key.now (bounds_for (length key.now) (option_copied bounds.entry)) (Ok (D.lists set.now))) result }
+    requires bounds { AreBounds key.now bounds.now }
+    ensures told { TellsMeant (MeansAnswer key.now bounds.now (Ok (D.lists set.now))) result }
     ensures reads_nothing { result ≢ Err Refusal.ReadFault }
 {
-    let bounds = bounds_for(alloc, key, bounds)?;
+    let bounds = bounds.to_vec(alloc)?;
     let certificate = convert(alloc, set, key, bounds.as_slice())?;
     let mut text = String::new(alloc);
     cert_text::print(&mut text, &certificate)?;

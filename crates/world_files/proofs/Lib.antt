@@ -1,3 +1,4 @@
+pub mod BoundLemmas
 pub mod LineCounts
 pub mod ListingSteps
 pub mod ReadLaws

@@ -1,5 +1,5 @@
 -- What a store is left with, where a call that reads nothing follows one that succeeded.
-use Rattle.std.proofs.Common.{◌≡◌, ◌≢◌, ℕ, Option, Result, Ok, Err}
+use Rattle.std.proofs.Common.{◌≢◌, ℕ, Option, Result, Ok, Err}
 use Rattle.world_files.specs.Reading.{Files, Reads}
 use Rattle.world_files.specs.declared.refusal.Refusal.{Refusal}
 use Rattle.world_files.specs.declared.refusal.Refusal.TheVariants as refusal

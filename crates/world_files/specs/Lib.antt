@@ -1,3 +1,4 @@
+pub mod BoundTexts
 pub mod Claims
 pub mod DataSets
 pub mod Loaded

@@ -4,6 +4,8 @@
 //! When a refusal is free, and what a store is left with: specs/Reading.antt.
 #![tactic(auto)]
 
+mod bounds;
+mod name;
 mod query;
 mod reading;
 mod refusal;
@@ -12,6 +14,8 @@ mod sets;
 mod unbuilt;
 mod world;
 
+pub use bounds::Bounds;
+pub use name::Name;
 pub use query::{Claim, Query, read_claim, read_set};
 pub use reading::{DataFile, Found, MOST_READ_BYTES};
 pub use refusal::Refusal;

@@ -8,6 +8,7 @@ ghost use Rattle.world_files.specs.Claims.{claimed};
 ghost use Rattle.world_files.specs.Queries.{short_key, or_no_set, set_number, lines_of_set, set_files, all_files, query_set, or_text_fault, claim_in, query_claim};
 ghost use Rattle.world_files.specs.Reading.{Files, Reads, Tells, IsRefusal};
 
+use crate::name::Name;
 use crate::reading::{DataFile, Found, read_file, read_files};
 use crate::refusal::Refusal;
 use crate::sets::set_in;
@@ -21,11 +22,11 @@ use std::alloc::Global;
 
 /// What is asked of one data set: its manifest, its name, and a key.
 #[derive(Drop)]
-pub struct Query {
+pub struct Query<'a> {
     /// The path of the manifest.
-    pub manifest: Text,
-    pub set: Text,
-    pub key: Text,
+    pub manifest: Name<'a>,
+    pub set: Name<'a>,
+    pub key: Name<'a>,
 }
 
 /// A data set, and what is claimed of a key in it.
@@ -37,7 +38,11 @@ pub struct Claim {
 
 /// Reads and builds the data set that is asked of.
 #[tactic(auto, unfolding(crate::specs::Queries::query_set))]
-pub fn read_set<S: Store>(alloc: Global, store: &mut S, query: &Query) -> Result<Engine, Refusal>
+pub fn read_set<S: Store>(
+    alloc: Global,
+    store: &mut S,
+    query: &Query<'_>,
+) -> Result<Engine, Refusal>
     ensures told { (files : Files) → S.files store.old ≡ Some files → Tells (λ engine. ⟦<Engine as DataSet>⟧.lists engine) result (query_set files query.now) }
     ensures short { IfOk result (λ _. length query.now.key ≤ MOST_KEY) }
     ensures reads { Reads (S.files store.old) (S.files store.new) (S.faults store.old) (S.faults store.new) result }
@@ -52,7 +57,7 @@ pub fn read_set<S: Store>(alloc: Global, store: &mut S, query: &Query) -> Result
 pub fn read_claim<S: Store>(
     alloc: Global,
     store: &mut S,
-    query: &Query,
+    query: &Query<'_>,
     name: &Text,
 ) -> Result<Claim, Refusal>
     ensures told { (files : Files) → S.files store.old ≡ Some files → Tells (λ claim. claimed claim (⟦<Engine as DataSet>⟧.lists claim.set)) result (query_claim files query.now name.now) }
@@ -68,7 +73,7 @@ pub fn read_claim<S: Store>(
 }
 
 /// What the text of a certificate claims of a key in a set.
-fn claim_in(alloc: Global, set: Engine, key: &Text, bytes: &[u8]) -> Result<Claim, Refusal>
+fn claim_in(alloc: Global, set: Engine, key: &Name<'_>, bytes: &[u8]) -> Result<Claim, Refusal>
     requires { length key.now ≤ MOST_KEY }
     ensures told { Tells (λ claim. claimed claim (⟦<Engine as DataSet>⟧.lists claim.set)) result (claim_in (⟦<Engine as DataSet>⟧.lists set) key.now bytes.now) }
     ensures bounds { IfOk result (λ claim. AreBounds key.now claim.certificate.bounds) }
@@ -79,27 +84,29 @@ fn claim_in(alloc: Global, set: Engine, key: &Text, bytes: &[u8]) -> Result<Clai
 }
 
 #[tactic(auto, unfolding(crate::specs::Queries::set_files))]
-fn set_files<S: Store>(alloc: Global, store: &mut S, query: &Query) -> Result<Found, Refusal>
+fn set_files<S: Store>(alloc: Global, store: &mut S, query: &Query<'_>) -> Result<Found, Refusal>
     ensures told { (files : Files) → S.files store.old ≡ Some files → Tells (λ found. found) result (set_files files query.now) }
     ensures short { IfOk result (λ _. length query.now.key ≤ MOST_KEY) }
     ensures few { IfOk result (λ found. length found.files < 2 ^ 32) }
     ensures reads { Reads (S.files store.old) (S.files store.new) (S.faults store.old) (S.faults store.new) result }
 {
     short_key(&query.key)?;
-    let start = open_manifest(alloc, store, false, &query.manifest)?;
+    let path = query.manifest.to_text(alloc)?;
+    let set = query.set.to_text(alloc)?;
+    let start = open_manifest(alloc, store, false, &path)?;
     let manifest = start.manifest;
-    let number = set_number(alloc, &query.set, manifest.sets.as_slice())?;
+    let number = set_number(alloc, &set, manifest.sets.as_slice())?;
     let lines = lines_of_set(alloc, number, manifest.files.into_vec())?;
     let found = read_files(alloc, store, start.left, lines.as_slice())?;
     Ok(found)
 }
 
-fn short_key(key: &Text) -> Result<(), Refusal>
+fn short_key(key: &Name<'_>) -> Result<(), Refusal>
     ensures told { Tells (λ _. key.now) result (short_key key.now) }
     ensures short { IfOk result (λ _. length key.now ≤ MOST_KEY) }
     ensures reads_nothing { result ≢ Err Refusal.ReadFault }
 {
-    if MOST_KEY < key.as_chars().len() {
+    if MOST_KEY < key.count() {
         return Err(Refusal::TooLarge(Limit::Key));
     }
     Ok(())
@@ -152,13 +159,13 @@ fn all_files(alloc: Global, found: Vec<DataFile>) -> Result<Vec<SetFile>, NoMemo
     Ok(found.into_iter().map(|file| file.file).collect(alloc)?)
 }
 
-fn certificate_in(alloc: Global, key: &Text, bytes: &[u8]) -> Result<Certificate, Refusal>
+fn certificate_in(alloc: Global, key: &Name<'_>, bytes: &[u8]) -> Result<Certificate, Refusal>
     requires { length key.now ≤ MOST_KEY }
     ensures told { Tells (λ certificate. certificate) result (or_text_fault (certificate_of (length key.now) (lines_of bytes.now))) }
     ensures bounds { IfOk result (λ certificate. AreBounds key.now certificate.bounds) }
     ensures reads_nothing { result ≢ Err Refusal.ReadFault }
 {
-    match cert_text::read(alloc, key.as_chars().len(), bytes) {
+    match cert_text::read(alloc, key.count(), bytes) {
         Ok(certificate) => Ok(certificate),
         Err(TextError::Line(line)) => Err(Refusal::BadCertificate(CertFault::Text { line })),
         Err(TextError::NoMemory) => Err(Refusal::Memory),

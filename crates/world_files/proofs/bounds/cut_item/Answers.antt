@@ -3,7 +3,7 @@ use Rattle.std.specs.List.{slice_split, position_or_len, before_first, after_fir
 use Rattle.std.proofs.lemmas.List.Splits.{slice_split_first, slice_split_none}
 use Rattle.std.proofs.lemmas.List.Sums.{fails_before_first}
 use Rattle.std.proofs.lemmas.Str.Pattern.{split_once_first}
-use Rattle.mozc_cli.proofs.bounds.cut_item.Goals as goal
+use Rattle.world_files.proofs.bounds.cut_item.Goals as goal
 
 cut_first : (p : ℕ → Bool) (line field rest : List ℕ) → (position_or_len p line < length line) × (field ≡ before_first p line) × (rest ≡ after_first p line) → slice_split p line ≡ field ∷ slice_split p rest
 cut_first p line field rest (inside, front, back) = rw (front, back) (slice_split_first p line 0 inside)
