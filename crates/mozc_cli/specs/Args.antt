@@ -1,4 +1,4 @@
--- What the words of the command line ask for: docs/FORMATS.md, "Commands".
+-- What the words of the command line ask for: docs/FORMATS.md, "Order of work" and "Convert and verify".
 use Rattle.std.specs.Prelude.{⊤, ℕ, ◌<◌, ◌&&◌, not, List, [], ◌∷◌, Option, Some, None, if◌then◌else◌, codes, bytes_eq, length, nat_lt}
 use Rattle.std.specs.Str.{chars}
 use Rattle.cert_text.specs.Fields.{bounds_in}

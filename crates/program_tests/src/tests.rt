@@ -1,4 +1,5 @@
-use mozc_cli::local;
+use mozc_cli::{Told, ending_of, local, tell};
+use mz_base::Status;
 use mz_outside::{MemorySink, MemoryStore, SureSink, SureStore};
 use std::alloc::{AllocError, Global};
 use std::test::Fail;
@@ -129,5 +130,29 @@ fn nothing_is_there(rt: HostRuntime) -> Result<(), Fail> {
     let status = local(alloc, &words[..1], &mut store, &mut sink);
     assert_eq!(rt; status.number(), 2);
     assert_eq!(rt; sink.taken(), 0);
+    Ok(())
+}
+
+#[test]
+fn a_version_that_cannot_be_written_is_a_write_fault(rt: HostRuntime) -> Result<(), Fail> {
+    let alloc = rt.alloc();
+    let mut sink = MemorySink::new(alloc, 1000);
+    assert_eq!(rt; tell(Told::Version, &mut sink).number(), 0);
+    assert!(rt; sink.as_slice() == b"sockflint 0.1.0\n".as_slice());
+    let mut sink = MemorySink::new(alloc, 1);
+    sink.fail_at(3)?;
+    assert_eq!(rt; tell(Told::Version, &mut sink).number(), 4);
+    assert!(rt; sink.as_slice() == b"so".as_slice());
+    Ok(())
+}
+
+#[test]
+fn want_of_memory_is_told(rt: HostRuntime) -> Result<(), Fail> {
+    let well = ending_of(&Status::Ok);
+    assert!(rt; well.text.is_none());
+    assert_eq!(rt; well.number, 0);
+    let ending = ending_of(&Status::Memory);
+    assert!(rt; ending.text.is_some());
+    assert_eq!(rt; ending.number, 1);
     Ok(())
 }

@@ -1,5 +1,5 @@
 -- The first line of a manifest that is not built yet: docs/FORMATS.md, "What is not built yet".
-use Rattle.std.specs.Prelude.{◌≡◌, ⊤, ℕ, ◌+◌, ◌&&◌, ◌||◌, Bool, true, false, not, List, [], ◌∷◌, ◌++◌, option_to_list, Option, Some, None, Result, Ok, Err, if◌then◌else◌, codes, bytes_eq, nat_lt}
+use Rattle.std.specs.Prelude.{ℕ, ◌+◌, ◌&&◌, ◌||◌, Bool, true, false, not, List, [], ◌∷◌, ◌++◌, option_to_list, Option, Some, None, Result, Ok, Err, if◌then◌else◌, codes, bytes_eq, nat_lt}
 use Rattle.std.specs.List.{list_any}
 use Rattle.std.specs.Str.{is_utf8}
 use Rattle.mz_base.specs.Lines.{lines_of, fields_of}
@@ -94,9 +94,3 @@ or_unbuilt name (Err fault) (Some line) =
 unfoldable pub manifest_served : Bool → List ℕ → List ℕ → Result Manifest Refusal
 manifest_served in_run name bytes =
     or_unbuilt name (manifest_of (lines_of bytes)) (unbuilt_line in_run (lines_of bytes))
-
--- this line of this file is unbuilt, unless memory ran out
-abbrev pub IsUnbuilt : Refusal → List ℕ → ℕ → Type 0
-IsUnbuilt (refusal.Unbuilt file number) name line = (file ≡ name) × (number ≡ line)
-IsUnbuilt refusal.Memory name line = ⊤
-IsUnbuilt _ name line = ⊥

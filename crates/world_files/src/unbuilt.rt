@@ -2,8 +2,8 @@ ghost use Rattle.std.specs.Prelude.{◌≡◌, ◌≢◌, ◌≤◌, ◌++◌, I
 ghost use Rattle.std.specs.List.{list_any};
 ghost use Rattle.mz_base.specs.Lines.{lines_of, pointed};
 ghost use Rattle.scenario.specs.declared.manifest.TheConstants.{MOST_SETS};
-ghost use Rattle.world_files.specs.Reading.{Tells, IsRefusal};
-ghost use Rattle.world_files.specs.Unbuilt.{single_of, single_in, is_same, is_second, is_dictionary, is_certificates, is_other_file, is_unbuilt, text_fields, unbuilt_line, refused_line, manifest_refusal, or_unbuilt, manifest_served, IsUnbuilt};
+ghost use Rattle.world_files.specs.Reading.{IsRefusal, Tells, UnlessFree};
+ghost use Rattle.world_files.specs.Unbuilt.{single_of, single_in, is_same, is_second, is_dictionary, is_certificates, is_other_file, is_unbuilt, text_fields, unbuilt_line, refused_line, manifest_refusal, or_unbuilt, manifest_served};
 
 use crate::refusal::Refusal;
 use mz_base::{FileLines, NoMemory, Text, cut_fields, text_of_line};
@@ -85,7 +85,7 @@ fn manifest_refusal(fault: ManifestError) -> Refusal
 
 /// A line of this file, whose form is not built.
 pub fn unbuilt_at(alloc: Global, name: &Text, line: u64) -> Refusal
-    ensures told { IsUnbuilt result name.now line }
+    ensures told { UnlessFree result (result ≡ Refusal.Unbuilt name.now line) }
     ensures reads_nothing { result ≢ Refusal.ReadFault }
 {
     match Text::from_chars(alloc, name.as_chars()) {
