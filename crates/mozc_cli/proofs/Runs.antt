@@ -1,21 +1,21 @@
 -- The order of a run is legal and complete, and its play gives the lines and the events that each command gives in turn.
-use Rattle.std.proofs.Common.{◌≡◌, ℕ, Bool, true, false, List, [], ◌∷◌, ◌++◌, Option, Some, None, option_and_then, unwrap_or, refl, sym, ap, ◌∙◌, append_assoc, append-nil}
+use Rattle.std.proofs.Common.{◌≡◌, ℕ, Bool, true, false, List, [], ◌∷◌, ◌++◌, Option, Some, None, unwrap_or, refl, ap, ◌∙◌, append_assoc, append-nil}
 use Rattle.mz_base.specs.Data.{DataLists}
 use Rattle.mz_base.specs.declared.event.Event.{Event}
 use Rattle.mz_base.specs.declared.event.Event.TheVariants as event
 use Rattle.mz_base.specs.declared.event.Outcome.TheVariants as outcome
 use Rattle.mz_base.specs.declared.report.Line.{Line}
 use Rattle.mz_base.specs.declared.romaji.Rule.{Rule}
-use Rattle.mozc_cli.specs.Core.{State, start, apply, play_from, play, take_for, client_events, client_lines, commands_of, run_order}
+use Rattle.mozc_cli.specs.Core.{State, start, play_from, play, take_for, client_events, client_lines, commands_of, run_order}
 use Rattle.mozc_cli.specs.Sessions.{opening, needs_take, step}
 use Rattle.mozc_cli.specs.Settles.{has_differs, run_state, run_output}
 use Rattle.mozc_cli.specs.Texts.{client_name, sections}
-use Rattle.mozc_cli.specs.declared.script.Command.{Command}
+use Rattle.world_files.specs.declared.script.Command.{Command}
 use Rattle.mozc_cli.specs.declared.session.Session.{Session}
 use Rattle.mozc_cli.specs.declared.session.TheConstants.{FIRST_JOB}
-use Rattle.mozc_cli.specs.declared.serving.TheConstants.{FIRST_CLIENT}
-use Rattle.mozc_cli.specs.Worlds.{World}
-use Rattle.mozc_cli.specs.declared.world.Plan.{Plan}
+use Rattle.mozc_cli.specs.declared.run.TheConstants.{FIRST_CLIENT}
+use Rattle.world_files.specs.Worlds.{World}
+use Rattle.world_files.specs.declared.world.Plan.{Plan}
 
 -- while the client is served
 abbrev pub serving : Session → List Command → List Line → List Event → State

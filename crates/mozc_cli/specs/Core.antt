@@ -1,17 +1,17 @@
 -- Events, when each is legal, and the order of a run: docs/FORMATS.md, "Events".
-use Rattle.std.specs.Prelude.{◌≡◌, ℕ, ◌==◌, ◌&&◌, Bool, true, false, not, List, [], ◌∷◌, ◌++◌, Option, Some, None, is_none, option_and_then, if◌then◌else◌, IsTrue}
+use Rattle.std.specs.Prelude.{◌≡◌, ◌==◌, ◌&&◌, Bool, true, false, not, List, [], ◌∷◌, ◌++◌, Option, Some, None, is_none, option_and_then, if◌then◌else◌, IsTrue}
 use Rattle.mz_base.specs.declared.event.Event.{Event}
 use Rattle.mz_base.specs.declared.event.Event.TheVariants as event
 use Rattle.mz_base.specs.declared.event.Outcome.TheVariants as outcome
 use Rattle.mz_base.specs.declared.report.Line.{Line}
 use Rattle.mz_base.specs.declared.romaji.Rule.{Rule}
-use Rattle.mozc_cli.specs.Sessions.{Stepped, opening, needs_take, step}
-use Rattle.mozc_cli.specs.declared.script.Command.{Command}
+use Rattle.mozc_cli.specs.Sessions.{opening, needs_take, step}
+use Rattle.world_files.specs.declared.script.Command.{Command}
 use Rattle.mozc_cli.specs.declared.session.Session.{Session}
 use Rattle.mozc_cli.specs.declared.session.TheConstants.{FIRST_JOB}
-use Rattle.mozc_cli.specs.declared.serving.TheConstants.{FIRST_CLIENT}
-use Rattle.mozc_cli.specs.declared.world.Plan.{Plan}
-use Rattle.mozc_cli.specs.Worlds.{World}
+use Rattle.mozc_cli.specs.declared.run.TheConstants.{FIRST_CLIENT}
+use Rattle.world_files.specs.declared.world.Plan.{Plan}
+use Rattle.world_files.specs.Worlds.{World}
 
 -- what stands after some events, with one job and at most one user and one client
 pub record State : Type 0 where

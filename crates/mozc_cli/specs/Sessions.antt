@@ -9,10 +9,10 @@ use Rattle.mz_base.specs.declared.report.Word.TheVariants as word
 use Rattle.mz_base.specs.declared.romaji.Rule.{Rule}
 use Rattle.composer.specs.Composing.{Composing, preedit_of, cursor_of, reading_of, inserted, backspaced}
 use Rattle.composer.specs.declared.composer.TheConstants.{MOST_SHOWN}
-use Rattle.mozc_cli.specs.declared.script.Command.{Command}
-use Rattle.mozc_cli.specs.declared.script.Command.TheVariants as command
-use Rattle.mozc_cli.specs.declared.script.Key.{Key}
-use Rattle.mozc_cli.specs.declared.script.Key.TheVariants as key
+use Rattle.world_files.specs.declared.script.Command.{Command}
+use Rattle.world_files.specs.declared.script.Command.TheVariants as command
+use Rattle.world_files.specs.declared.script.Key.{Key}
+use Rattle.world_files.specs.declared.script.Key.TheVariants as key
 use Rattle.mozc_cli.specs.declared.session.Session.{Session}
 use Rattle.mozc_cli.specs.declared.session.TheConstants.{FIRST_JOB}
 

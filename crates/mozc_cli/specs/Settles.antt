@@ -1,73 +1,30 @@
 -- What the program's answer says, and what it writes: docs/FORMATS.md, "Statuses".
-use Rattle.std.specs.Prelude.{◌≡◌, ⊤, ℕ, ◌&&◌, Bool, true, false, not, List, [], ◌∷◌, ◌++◌, Option, Some, None, unwrap_or, Result, Ok, Err, if◌then◌else◌, codes, bytes_eq, length, nat_lt}
+use Rattle.std.specs.Prelude.{◌≡◌, ⊤, ℕ, Bool, true, false, List, ◌++◌, Option, unwrap_or, Result, Ok, Err, if◌then◌else◌, codes, length, nat_lt}
 use Rattle.std.specs.List.{list_any}
 use Rattle.std.specs.Fmt.{signed_decimal}
-use Rattle.std.specs.Str.{chars}
 use Rattle.mz_base.specs.Answers.{◌>>=◌}
 use Rattle.mz_base.specs.Data.{DataLists}
 use Rattle.mz_base.specs.declared.lattice.Certificate.{Certificate}
 use Rattle.mz_base.specs.declared.status.CertFault.{CertFault}
-use Rattle.cert_text.specs.Fields.{bounds_in}
 use Rattle.cert_text.specs.Texts.{certificate_text}
 use Rattle.mz_base.specs.declared.report.Line.{Line}
 use Rattle.mz_base.specs.declared.report.Word.{Word}
-use Rattle.mz_base.specs.declared.report.Word.TheVariants.{Done, Pass, Full, Met, Differs, Awaited, NotYet}
+use Rattle.mz_base.specs.declared.report.Word.TheVariants.{Differs}
 use Rattle.mz_base.specs.declared.status.Limit.TheVariants.{Report}
 use Rattle.mz_base.specs.declared.status.Status.{Status}
 use Rattle.mz_base.specs.declared.status.Status.TheVariants as status
 use Rattle.mz_outside.specs.Taken.{with_more, AddsFront}
-use Rattle.mozc_cli.specs.Conversions.{Claimed, set_asked, claim_asked, IsAnswerTo, IsVerdictOn}
+use Rattle.mozc_cli.specs.Conversions.{IsAnswerTo, IsVerdictOn}
 use Rattle.mozc_cli.specs.Core.{State, play, run_order, start}
-use Rattle.mozc_cli.specs.Reading.{Files}
+use Rattle.world_files.specs.Queries.{Claimed, query_set, query_claim}
+use Rattle.world_files.specs.Reading.{Files, UnlessFree}
 use Rattle.mozc_cli.specs.Texts.{report_text}
-use Rattle.mozc_cli.specs.Worlds.{World, world, listing}
-use Rattle.mozc_cli.specs.declared.asking.Asking.{Asking}
-use Rattle.mozc_cli.specs.declared.local.TheConstants.{MOST_OUTPUT_BYTES}
-use Rattle.mozc_cli.specs.declared.refusal.Refusal.{Refusal}
-use Rattle.mozc_cli.specs.declared.refusal.Refusal.TheVariants as refusal
-
--- what the words of the command line ask for, of the manifest that they name
-pub data Asked : Type 0 where
-  run : List ℕ → Asked
-  check : List ℕ → Asked
-  -- of one data set, with the bounds, or with the path of a certificate
-  convert : Asking → List ℕ → Asked
-  verify : Asking → List ℕ → Asked
-
--- the command of two words
-abbrev pub asked_of : List ℕ → List ℕ → Option Asked
-asked_of command manifest =
-    if bytes_eq command (codes "run") then Some (run (chars manifest)) else
-    if bytes_eq command (codes "check") then Some (check (chars manifest)) else
-    None
-
--- what is asked of one data set
-abbrev pub asking : List ℕ → List ℕ → List ℕ → Asking
-asking manifest set key = record { manifest = chars manifest; set = chars set; key = chars key }
-
--- a conversion without bounds, of a key that is not empty
-abbrev pub asked_plain : List ℕ → Asking → Option Asked
-asked_plain command asking =
-    if nat_lt 0 (length asking.key) && bytes_eq command (codes "convert") then Some (convert asking []) else None
-
--- a conversion with bounds
-abbrev pub with_bounds : Asking → Option (List ℕ) → Option Asked
-with_bounds asking None = None
-with_bounds asking (Some bounds) = Some (convert asking bounds)
-
--- a command with one word more, of a key that is not empty
-abbrev pub asked_with : List ℕ → Asking → List ℕ → Option Asked
-asked_with command asking last =
-    if not (nat_lt 0 (length asking.key)) then None else
-    if bytes_eq command (codes "convert") then with_bounds asking (bounds_in (length asking.key) last) else
-    if bytes_eq command (codes "verify") then Some (verify asking (chars last)) else
-    None
-
-abbrev pub asked : List (List ℕ) → Option Asked
-asked (command ∷ manifest ∷ []) = asked_of command manifest
-asked (command ∷ manifest ∷ set ∷ key ∷ []) = asked_plain command (asking manifest set key)
-asked (command ∷ manifest ∷ set ∷ key ∷ last ∷ []) = asked_with command (asking manifest set key) last
-asked _ = None
+use Rattle.world_files.specs.Worlds.{World, world, listing}
+use Rattle.mozc_cli.specs.declared.args.Request.{Request}
+use Rattle.mozc_cli.specs.declared.args.Request.TheVariants as request
+use Rattle.mozc_cli.specs.declared.outputs.TheConstants.{MOST_OUTPUT_BYTES}
+use Rattle.world_files.specs.declared.refusal.Refusal.{Refusal}
+use Rattle.world_files.specs.declared.refusal.Refusal.TheVariants as refusal
 
 -- a refusal as a status
 abbrev pub status_of : Refusal → Status
@@ -138,11 +95,11 @@ MeansVerdict key (Ok claimed) meant =
     (verdict : Result (Unit {0}) CertFault) × IsVerdictOn claimed.set key claimed.certificate verdict × (meant ≡ verdict_output claimed.certificate verdict)
 
 -- What a command gives: what it writes, or the first refusal in the order of work.
-abbrev pub Means : Files → Asked → Result Output Refusal → Type 0
-Means files (run name) meant = meant ≡ run_meant files name
-Means files (check name) meant = meant ≡ check_meant files name
-Means files (convert asking bounds) meant = MeansAnswer asking.key bounds (set_asked files asking) meant
-Means files (verify asking name) meant = MeansVerdict asking.key (claim_asked files asking name) meant
+abbrev pub Means : Files → Request → Result Output Refusal → Type 0
+Means files (request.Run name) meant = meant ≡ run_meant files name
+Means files (request.Check name) meant = meant ≡ check_meant files name
+Means files (request.Convert query bounds) meant = MeansAnswer query.key bounds (query_set files query) meant
+Means files (request.Verify query name) meant = MeansVerdict query.key (query_claim files query name) meant
 
 -- the output was written whole, and each expectation is met in it, or not
 pub record IsWritten (Gives : Result Output Refusal → Type 0) (unmet : Bool) (before after : Option (List ℕ)) : Type 0 where
@@ -150,33 +107,26 @@ pub record IsWritten (Gives : Result Output Refusal → Type 0) (unmet : Bool) (
   pub gives : Gives (Ok (record { text = text; unmet = unmet }))
   pub written : after ≡ with_more before text
 
--- a front of the output was written
+-- a prefix of the output was written
 pub record IsCutShort (Gives : Result Output Refusal → Type 0) (before after : Option (List ℕ)) : Type 0 where
   pub output : Output
   pub gives : Gives (Ok output)
   pub front : AddsFront before after output.text
 
--- the command is refused, and nothing was written
-pub record IsRefused (Gives : Result Output Refusal → Type 0) (refused : Refusal) (before after : Option (List ℕ)) : Type 0 where
-  pub gives : Gives (Err refused)
+-- The command is refused with this answer, and nothing was written. A free refusal says nothing of what the command gives.
+pub record IsRefused (Gives : Result Output Refusal → Type 0) (before after : Option (List ℕ)) (answer : Status) : Type 0 where
+  pub refused : Refusal
+  pub answers : answer ≡ status_of refused
+  pub gives : UnlessFree refused (Gives (Err refused))
   pub silent : after ≡ before
 
--- What a status says of what the command gives, and what was written. Of memory and faults other clauses say when they come;
--- the statuses that are not named do not come.
+-- What a status says of what the command gives, and what was written. No other status comes than those of `status_of` and these
+-- three; when a fault comes, other clauses say.
 abbrev pub Settles : (Result Output Refusal → Type 0) → Option (List ℕ) → Option (List ℕ) → Status → Type 0
 Settles Gives before after status.Ok = IsWritten Gives false before after
 Settles Gives before after status.Unmet = IsWritten Gives true before after
 Settles Gives before after status.WriteFault = IsCutShort Gives before after
-Settles Gives before after (status.Absent name) = IsRefused Gives (refusal.Absent name) before after
-Settles Gives before after (status.BadManifest line) = IsRefused Gives (refusal.BadManifest line) before after
-Settles Gives before after (status.BadData set) = IsRefused Gives (refusal.BadData set) before after
-Settles Gives before after (status.TooLarge limit) = IsRefused Gives (refusal.TooLarge limit) before after
-Settles Gives before after (status.BadCertificate fault) = IsRefused Gives (refusal.BadCertificate fault) before after
-Settles Gives before after (status.NoSet name) = IsRefused Gives (refusal.NoSet name) before after
-Settles Gives before after (status.Unbuilt name line) = IsRefused Gives (refusal.Unbuilt name line) before after
-Settles Gives before after status.Memory = after ≡ before
-Settles Gives before after status.ReadFault = after ≡ before
-Settles Gives before after _ = ⊥
+Settles Gives before after answer = IsRefused Gives before after answer
 
 -- nothing was written, except of an output
 abbrev pub IsSilent : Option (List ℕ) → Option (List ℕ) → Status → Type 0

@@ -7,8 +7,8 @@ use Rattle.mz_base.specs.declared.event.Event.{Event}
 use Rattle.mz_base.specs.declared.event.Event.TheVariants as event
 use Rattle.mz_base.specs.declared.report.Line.{Line}
 use Rattle.mozc_cli.specs.Core.{State}
-use Rattle.mozc_cli.specs.Worlds.{World}
-use Rattle.mozc_cli.specs.declared.world.Plan.{Plan}
+use Rattle.world_files.specs.Worlds.{World}
+use Rattle.world_files.specs.declared.world.Plan.{Plan}
 
 -- the names in a report: the one client's and the one user's, empty where there is none
 pub record Names : Type 0 where

@@ -1,6 +1,6 @@
 ghost use Rattle.std.specs.Prelude.{◌≡◌, Some};
 ghost use Rattle.mozc_cli.specs.Core.{State, play, run_order, IsComplete};
-ghost use Rattle.mozc_cli.specs.Worlds.{World};
+ghost use Rattle.world_files.specs.Worlds.{World};
 
 /// The order of a run is legal: each of its events is. It is complete: the job and each command come, the client ends
 /// and the log closes. And the events that its play notes are the order itself.

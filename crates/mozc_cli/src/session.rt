@@ -3,10 +3,10 @@ ghost use Rattle.std.specs.Fmt.{decimal};
 ghost use Rattle.composer.specs.Composing.{preedit_of, cursor_of};
 ghost use Rattle.mozc_cli.specs.Sessions.{opening, mode_of, version_of, needs_take, is_char, plain_line, found_line, composing_line, kept, composed, typed, passed, committed, cancelled, erased, shown, expected, pressed_key, step};
 
-use crate::script::{Command, Key};
 use composer::{Composer, InsertError};
 use mz_base::{Line, Mode, NoMemory, Romaji, Seq, Text, Word};
 use std::alloc::Global;
+use world_files::{Command, Key};
 
 /// The number of the one job, whose data each composition takes.
 pub const FIRST_JOB: u32 = 1;

@@ -1,0 +1,24 @@
+//! The commands of the program, and what the program itself does with its words. Start at [`local`]; the program calls
+//! [`action_for`], [`tell`] and [`ending_of`] too.
+//! What the words ask for: specs/Args.antt; what an answer says: specs/Settles.antt; what a run is: specs/Core.antt.
+#![tactic(auto)]
+
+mod args;
+mod command;
+mod convert;
+mod laws;
+mod outputs;
+mod program;
+mod report;
+mod run;
+mod session;
+mod statuses;
+
+pub use args::Request;
+pub use command::local;
+pub use laws::run_order_is_complete;
+pub use outputs::{MOST_OUTPUT_BYTES, Output};
+pub use program::{Action, Ending, Told, action_for, ending_of, tell};
+pub use report::Named;
+pub use run::{FIRST_CLIENT, Served};
+pub use session::{FIRST_JOB, Session};

@@ -1,0 +1,199 @@
+ghost use Rattle.std.specs.Prelude.{◌≡◌, ◌≢◌, ◌++◌, ◌<◌, Some, Ok, Err, IfOk, codes, length};
+ghost use Rattle.std.specs.Fmt.{signed_decimal};
+ghost use Rattle.std.specs.Option.{option_copied};
+ghost use Rattle.cert_text.specs.Texts.{certificate_text};
+ghost use Rattle.conversion_meaning.specs.Lattices.{AreBounds, IsKey};
+ghost use Rattle.world_files.specs.Loaded.{world_of};
+ghost use Rattle.world_files.specs.Queries.{query_set, query_claim};
+ghost use Rattle.world_files.specs.Reading.{Files, Reads, Tells};
+ghost use Rattle.mozc_cli.specs.Args.{IsFit};
+ghost use Rattle.mozc_cli.specs.Reported.{shown, TellsMeant};
+ghost use Rattle.mozc_cli.specs.Settles.{Means, MeansAnswer, MeansVerdict, has_differs, list_output, run_output, run_meant, check_meant, limited};
+ghost use Rattle.mozc_cli.specs.Texts.{client_name};
+
+use crate::args::Request;
+use crate::convert::{convert, verify};
+use crate::report::print;
+use crate::run::serve;
+use engine::Engine;
+use mz_base::{Certificate, DataSet, Limit, Line, NoMemory, Text, Word};
+use mz_outside::Store;
+use std::alloc::Global;
+use world_files::{
+    Bounds, Loaded, Name, Plan, Query, Refusal, read_claim, read_listing, read_set, read_world,
+};
+
+/// The most bytes of an output.
+pub const MOST_OUTPUT_BYTES: usize = 1 << 30;
+
+/// What a command writes, and whether an expectation was not met in it.
+#[derive(Drop)]
+pub struct Output {
+    pub text: String,
+    pub unmet: bool,
+}
+
+pub fn output_for<S: Store>(
+    alloc: Global,
+    store: &mut S,
+    request: &Request<'_>,
+) -> Result<Output, Refusal>
+    requires { IsFit request.now }
+    ensures told { (files : Files) → S.files store.old ≡ Some files → TellsMeant (Means files request.now) result }
+    ensures reads { Reads (S.files store.old) (S.files store.new) (S.faults store.old) (S.faults store.new) result }
+{
+    match request {
+        Request::Run(name) => report_in(alloc, store, name),
+        Request::Check(name) => listing_in(alloc, store, name),
+        Request::Convert(query, bounds) => conversion_in(alloc, store, query, bounds),
+        Request::Verify(query, name) => verdict_in(alloc, store, query, name),
+    }
+}
+
+fn report_in<S: Store>(alloc: Global, store: &mut S, name: &Name<'_>) -> Result<Output, Refusal>
+    ensures told { (files : Files) → S.files store.old ≡ Some files → Tells shown result (run_meant files name.now) }
+    ensures reads { Reads (S.files store.old) (S.files store.new) (S.faults store.old) (S.faults store.new) result }
+{
+    let name = name.to_text(alloc)?;
+    let world = read_world(alloc, store, &name)?;
+    report_in_limit(alloc, &world)
+}
+
+fn report_in_limit(alloc: Global, world: &Loaded) -> Result<Output, Refusal>
+    ensures told { Tells shown result (limited (run_output (world_of world.now (⟦<Engine as DataSet>⟧.lists world.now.set)))) }
+    ensures reads_nothing { result ≢ Err Refusal.ReadFault }
+{
+    limited(report_of(alloc, world)?)
+}
+
+fn listing_in<S: Store>(alloc: Global, store: &mut S, name: &Name<'_>) -> Result<Output, Refusal>
+    ensures told { (files : Files) → S.files store.old ≡ Some files → Tells shown result (check_meant files name.now) }
+    ensures reads { Reads (S.files store.old) (S.files store.new) (S.faults store.old) (S.faults store.new) result }
+{
+    let name = name.to_text(alloc)?;
+    let text = read_listing(alloc, store, &name)?;
+    limited(Output { text, unmet: false })
+}
+
+fn conversion_in<S: Store>(
+    alloc: Global,
+    store: &mut S,
+    query: &Query<'_>,
+    bounds: &Bounds<'_>,
+) -> Result<Output, Refusal>
+    requires some { 0 < length query.now.key }
+    requires bounds { AreBounds query.now.key bounds.now }
+    ensures told { (files : Files) → S.files store.old ≡ Some files → TellsMeant (MeansAnswer query.now.key bounds.now (query_set files query.now)) result }
+    ensures reads { Reads (S.files store.old) (S.files store.new) (S.faults store.old) (S.faults store.new) result }
+{
+    let key = query.key.to_text(alloc)?;
+    match read_set(alloc, store, query) {
+        Ok(set) => converted(alloc, &set, key.as_chars(), bounds),
+        Err(refusal) => Err(refusal),
+    }
+}
+
+fn verdict_in<S: Store>(
+    alloc: Global,
+    store: &mut S,
+    query: &Query<'_>,
+    name: &Name<'_>,
+) -> Result<Output, Refusal>
+    requires { 0 < length query.now.key }
+    ensures told { (files : Files) → S.files store.old ≡ Some files → TellsMeant (MeansVerdict query.now.key (query_claim files query.now name.now)) result }
+    ensures reads { Reads (S.files store.old) (S.files store.new) (S.faults store.old) (S.faults store.new) result }
+{
+    let key = query.key.to_text(alloc)?;
+    let name = name.to_text(alloc)?;
+    match read_claim(alloc, store, query, &name) {
+        Ok(claim) => judged(alloc, &claim.set, key.as_chars(), &claim.certificate),
+        Err(refusal) => Err(refusal),
+    }
+}
+
+fn converted<D: DataSet>(
+    alloc: Global,
+    set: &D,
+    key: &[char],
+    bounds: &Bounds<'_>,
+) -> Result<Output, Refusal>
+    requires key { IsKey key.now }
+    requires bounds { AreBounds key.now bounds.now }
+    ensures told { TellsMeant (MeansAnswer key.now bounds.now (Ok (D.lists set.now))) result }
+    ensures reads_nothing { result ≢ Err Refusal.ReadFault }
+{
+    let bounds = bounds.to_vec(alloc)?;
+    let certificate = convert(alloc, set, key, bounds.as_slice())?;
+    let mut text = String::new(alloc);
+    cert_text::print(&mut text, &certificate)?;
+    limited(Output { text, unmet: false })
+}
+
+fn judged<D: DataSet>(
+    alloc: Global,
+    set: &D,
+    key: &[char],
+    certificate: &Certificate,
+) -> Result<Output, Refusal>
+    requires key { IsKey key.now }
+    requires bounds { AreBounds key.now certificate.now.bounds }
+    ensures told { TellsMeant (MeansVerdict key.now (Ok (record { set = D.lists set.now; certificate = certificate.now }))) result }
+    ensures reads_nothing { result ≢ Err Refusal.ReadFault }
+{
+    match verify(alloc, set, key, certificate)? {
+        Ok(()) => verdict_output(alloc, certificate.total),
+        Err(fault) => Err(Refusal::BadCertificate(fault)),
+    }
+}
+
+fn verdict_output(alloc: Global, total: i64) -> Result<Output, Refusal>
+    ensures told { Tells shown result (limited (list_output (codes "ok\t" ++ (signed_decimal total ++ codes "\n")))) }
+    ensures reads_nothing { result ≢ Err Refusal.ReadFault }
+{
+    let mut text = String::new(alloc);
+    write!(&mut text, "ok\t{total}\n")?;
+    limited(Output { text, unmet: false })
+}
+
+fn limited(output: Output) -> Result<Output, Refusal>
+    ensures told { Tells shown result (limited (shown output)) }
+    ensures reads_nothing { result ≢ Err Refusal.ReadFault }
+{
+    if MOST_OUTPUT_BYTES < output.text.len() {
+        return Err(Refusal::TooLarge(Limit::Report));
+    }
+    Ok(output)
+}
+
+fn report_of(alloc: Global, world: &Loaded) -> Result<Output, NoMemory>
+    ensures { IfOk result (λ output. shown output ≡ run_output (world_of world.now (⟦<Engine as DataSet>⟧.lists world.now.set))) }
+{
+    let client = world.client.as_ref();
+    let served = serve(alloc, &world.set, client)?;
+    let text = print(
+        alloc,
+        world.user.as_ref(),
+        name_of(client),
+        served.lines.as_slice(),
+        served.events.as_slice(),
+    )?;
+    Ok(Output {
+        text,
+        unmet: has_differs(served.lines.as_slice()),
+    })
+}
+
+fn name_of(client: Option<&Plan>) -> Option<&Text>
+    ensures { option_copied result ≡ client_name (option_copied client.entry) }
+{
+    match client {
+        Some(plan) => Some(&plan.name),
+        None => None,
+    }
+}
+
+fn has_differs(lines: &[Line]) -> bool
+    ensures { result ≡ has_differs lines.now }
+{
+    lines.iter().any(|line| line.word == Word::Differs)
+}

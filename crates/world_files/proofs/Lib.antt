@@ -1,0 +1,6 @@
+pub mod BoundLemmas
+pub mod LineCounts
+pub mod ListingSteps
+pub mod ReadLaws
+pub mod ScriptSteps
+pub mod SetFiles

@@ -1,0 +1,43 @@
+-- The data sets of a manifest, and their listing: docs/FORMATS.md, "The listing of data sets".
+use Rattle.std.specs.Prelude.{ℕ, ◌+◌, ◌-◌, ◌==◌, not, List, [], ◌∷◌, ◌++◌, map, filter, Result, Ok, Err, codes, encode_utf8_all, length, slice_index_or}
+use Rattle.std.specs.Fmt.{decimal}
+use Rattle.mz_base.specs.Answers.{◌>>=◌}
+use Rattle.mz_base.specs.Data.{DataLists}
+use Rattle.mz_base.specs.declared.fault.Fault.{Fault}
+use Rattle.engine.specs.Sets.{data_of, has_role}
+use Rattle.engine.specs.declared.files.SetFile.{SetFile}
+use Rattle.world_files.specs.declared.reading.DataFile.{DataFile}
+use Rattle.world_files.specs.declared.refusal.Refusal.{Refusal}
+use Rattle.world_files.specs.declared.refusal.Refusal.TheVariants as refusal
+
+-- the files of the set of this number
+abbrev pub files_of : ℕ → List DataFile → List SetFile
+files_of number files = map (λ (file : DataFile). file.file) (filter (λ (file : DataFile). file.set == number) files)
+
+-- the files of all other sets
+abbrev pub others_of : ℕ → List DataFile → List DataFile
+others_of number files = filter (λ (file : DataFile). not (file.set == number)) files
+
+-- the path of the file that has a fault
+abbrev pub path_of : List SetFile → Fault → List ℕ
+path_of files fault =
+    slice_index_or (map (λ (file : SetFile). file.path) (filter (has_role fault.role) files)) (fault.nth - 1) []
+
+-- a set, or the fault of its files
+abbrev pub or_bad : List SetFile → Result DataLists Fault → Result DataLists Refusal
+or_bad files (Ok set) = Ok set
+or_bad files (Err fault) = Err (refusal.BadData (record { path = path_of files fault; fault = fault }))
+
+abbrev pub set_in : List SetFile → Result DataLists Refusal
+set_in files = or_bad files (data_of files)
+
+-- a set's line: its name, and how many ids, words and romaji rules it has
+abbrev pub set_text : List ℕ → DataLists → List ℕ
+set_text name set =
+    codes "set\t" ++ (encode_utf8_all name ++ (codes "\t" ++ (decimal set.ids ++ (codes "\t" ++ (decimal (length set.words) ++ (codes "\t" ++ (decimal (length set.rules) ++ codes "\n")))))))
+
+-- the lines so far, and then those of the sets from this number on; or the first that does not read
+abbrev pub listing_after : List DataFile → List ℕ → ℕ → List (List ℕ) → Result (List ℕ) Refusal
+listing_after files text number [] = Ok text
+listing_after files text number (name ∷ names) =
+    set_in (files_of number files) >>= (λ set. listing_after files (text ++ set_text name set) (number + 1) names)

@@ -1,0 +1,10 @@
+pub mod BoundTexts
+pub mod Claims
+pub mod DataSets
+pub mod Loaded
+pub mod Queries
+pub mod Reading
+pub mod ScriptAnswers
+pub mod Scripts
+pub mod Unbuilt
+pub mod Worlds

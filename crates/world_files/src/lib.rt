@@ -1,0 +1,24 @@
+//! What the files of a command mean: they are read in the order of work, and the first refusal counts. Start at
+//! [`read_world`], [`read_listing`], [`read_set`] and [`read_claim`].
+//! The order of work, and the world of a manifest: specs/Worlds.antt. What is asked of one data set: specs/Queries.antt.
+//! When a refusal is free, and what a store is left with: specs/Reading.antt.
+#![tactic(auto)]
+
+mod bounds;
+mod name;
+mod query;
+mod reading;
+mod refusal;
+mod script;
+mod sets;
+mod unbuilt;
+mod world;
+
+pub use bounds::Bounds;
+pub use name::Name;
+pub use query::{Claim, Query, read_claim, read_set};
+pub use reading::{DataFile, Found, MOST_READ_BYTES};
+pub use refusal::Refusal;
+pub use script::{Command, Key, MOST_COMMANDS, MOST_KEYS, ScriptError, read_script};
+pub use unbuilt::{Single, manifest_served};
+pub use world::{Loaded, Opened, Plan, Planned, read_listing, read_world};

@@ -1,0 +1,164 @@
+ghost use Rattle.std.specs.Prelude.{◌≡◌, ◌≢◌, ◌<◌, ◌≤◌, ◌^◌, ◌-◌, ℕ, List, [], Option, Some, None, Err, IfOk, length, slice_get};
+ghost use Rattle.std.specs.Option.{option_copied};
+ghost use Rattle.std.specs.String.{string_bytes};
+ghost use Rattle.mz_base.specs.Lines.{lines_of};
+ghost use Rattle.world_files.specs.Loaded.{world_of};
+ghost use Rattle.world_files.specs.Reading.{Files, Reads, Tells, IsRefusal};
+ghost use Rattle.world_files.specs.Scripts.{script_after};
+ghost use Rattle.world_files.specs.Worlds.{opened, client_in, in_script, planned, world, listing};
+
+use crate::reading::{MOST_READ_BYTES, read_file, read_files};
+use crate::refusal::Refusal;
+use crate::script::{Command, ScriptError, read_script};
+use crate::sets::{first_set, list_sets};
+use crate::unbuilt::{manifest_served, unbuilt_at};
+use engine::Engine;
+use mz_base::{DataSet, NoMemory, Seq, Text};
+use mz_outside::Store;
+use scenario::{ClientLine, Manifest};
+use std::alloc::Global;
+
+/// The one client of a run.
+#[derive(Drop)]
+pub struct Plan {
+    pub name: Text,
+    pub commands: Seq<Command>,
+}
+
+/// What the files of a run mean: its user and its client, where there are such, and its data set.
+#[derive(Drop)]
+pub struct Loaded {
+    pub user: Option<Text>,
+    pub client: Option<Plan>,
+    pub set: Engine,
+}
+
+/// A manifest, and the bytes that may be read after it.
+#[derive(Drop)]
+pub struct Opened {
+    pub manifest: Manifest,
+    pub left: usize,
+}
+
+/// The client, where there is one, and the bytes that may be read after its script.
+#[derive(Drop)]
+pub struct Planned {
+    pub client: Option<Plan>,
+    pub left: usize,
+}
+
+/// Reads what a run needs: the manifest, the script, and the data files, in this order.
+#[tactic(auto, unfolding(crate::specs::Worlds::world))]
+pub fn read_world<S: Store>(alloc: Global, store: &mut S, name: &Text) -> Result<Loaded, Refusal>
+    ensures told { (files : Files) → S.files store.old ≡ Some files → Tells (λ loaded. world_of loaded (⟦<Engine as DataSet>⟧.lists loaded.set)) result (world files name.now) }
+    ensures reads { Reads (S.files store.old) (S.files store.new) (S.faults store.old) (S.faults store.new) result }
+{
+    let start = open_manifest(alloc, store, true, name)?;
+    let manifest = start.manifest;
+    let user = first_name(alloc, manifest.users.as_slice())?;
+    let plan = plan_client(
+        alloc,
+        store,
+        start.left,
+        manifest.clients.as_slice().first(),
+    )?;
+    let found = read_files(alloc, store, plan.left, manifest.files.as_slice())?;
+    let set = first_set(alloc, found.files.into_vec())?;
+    Ok(Loaded {
+        user,
+        client: plan.client,
+        set,
+    })
+}
+
+/// Reads the manifest and all data files, and lists the data sets.
+#[tactic(auto, unfolding(crate::specs::Worlds::listing))]
+pub fn read_listing<S: Store>(alloc: Global, store: &mut S, name: &Text) -> Result<String, Refusal>
+    ensures told { (files : Files) → S.files store.old ≡ Some files → Tells (λ text. string_bytes text) result (listing files name.now) }
+    ensures reads { Reads (S.files store.old) (S.files store.new) (S.faults store.old) (S.faults store.new) result }
+{
+    let start = open_manifest(alloc, store, false, name)?;
+    let found = read_files(alloc, store, start.left, start.manifest.files.as_slice())?;
+    list_sets(
+        alloc,
+        found.files.into_vec(),
+        start.manifest.sets.as_slice(),
+    )
+}
+
+fn first_name(alloc: Global, names: &[Text]) -> Result<Option<Text>, NoMemory>
+    ensures { IfOk result (λ name. name ≡ slice_get names.now 0) }
+{
+    match names {
+        [name, ..] => Ok(Some(Text::from_chars(alloc, name.as_chars())?)),
+        [] => Ok(None),
+    }
+}
+
+#[tactic(auto, unfolding(crate::specs::Worlds::opened))]
+pub fn open_manifest<S: Store>(
+    alloc: Global,
+    store: &mut S,
+    in_run: bool,
+    name: &Text,
+) -> Result<Opened, Refusal>
+    ensures told { (files : Files) → S.files store.old ≡ Some files → Tells (λ opened. opened) result (opened in_run files name.now) }
+    ensures few { IfOk result (λ opened. length opened.manifest.files < 2 ^ 32) }
+    ensures sets { IfOk result (λ opened. length opened.manifest.sets < 2 ^ 32 - 1) }
+    ensures reads { Reads (S.files store.old) (S.files store.new) (S.faults store.old) (S.faults store.new) result }
+{
+    let bytes = read_file(alloc, store, MOST_READ_BYTES, name)?;
+    let manifest = manifest_served(alloc, in_run, name, bytes.as_slice())?;
+    Ok(Opened {
+        manifest,
+        left: MOST_READ_BYTES - bytes.len(),
+    })
+}
+
+fn plan_client<S: Store>(
+    alloc: Global,
+    store: &mut S,
+    left: usize,
+    line: Option<&ClientLine>,
+) -> Result<Planned, Refusal>
+    ensures told { (files : Files) → S.files store.old ≡ Some files → Tells (λ planned. planned) result (planned files left (option_copied line.entry)) }
+    ensures reads { Reads (S.files store.old) (S.files store.new) (S.faults store.old) (S.faults store.new) result }
+{
+    match line {
+        Some(line) => client_in(alloc, store, left, line),
+        None => Ok(Planned { client: None, left }),
+    }
+}
+
+#[tactic(auto, unfolding(crate::specs::Worlds::client_in))]
+fn client_in<S: Store>(
+    alloc: Global,
+    store: &mut S,
+    left: usize,
+    line: &ClientLine,
+) -> Result<Planned, Refusal>
+    ensures told { (files : Files) → S.files store.old ≡ Some files → Tells (λ planned. planned) result (client_in files left line.now) }
+    ensures reads { Reads (S.files store.old) (S.files store.new) (S.faults store.old) (S.faults store.new) result }
+{
+    let bytes = read_file(alloc, store, left, &line.script)?;
+    let commands = in_script(alloc, &line.script, bytes.as_slice())?;
+    let name = Text::from_chars(alloc, line.name.as_chars())?;
+    Ok(Planned {
+        client: Some(Plan {
+            name,
+            commands: Seq::from_vec(commands),
+        }),
+        left: left - bytes.len(),
+    })
+}
+
+fn in_script(alloc: Global, name: &Text, bytes: &[u8]) -> Result<Vec<Command>, Refusal>
+    ensures told { Tells (λ commands. commands.items) result (in_script name.now (script_after [] 1 (lines_of bytes.now))) }
+    ensures reads_nothing { result ≢ Err Refusal.ReadFault }
+{
+    match read_script(alloc, bytes) {
+        Ok(commands) => Ok(commands),
+        Err(ScriptError::Line(line)) => Err(unbuilt_at(alloc, name, line)),
+        Err(ScriptError::NoMemory) => Err(Refusal::Memory),
+    }
+}
