@@ -124,8 +124,7 @@ fn converted<D: DataSet>(
 {
     let bounds = bounds.to_vec(alloc)?;
     let certificate = convert(alloc, set, key, bounds.as_slice())?;
-    let mut text = String::new(alloc);
-    cert_text::print(&mut text, &certificate)?;
+    let text = cert_text::print(alloc, &certificate)?;
     limited(Output { text, unmet: false })
 }
 
