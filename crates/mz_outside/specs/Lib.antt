@@ -3,4 +3,6 @@ pub mod FileList
 pub mod Front
 pub mod Memory
 pub mod Plan
+pub mod Reading
 pub mod Taken
+pub mod Written

@@ -1,17 +1,15 @@
 //! The files of the runtime as a store.
-ghost use Rattle.std.specs.Prelude.{◌≡◌, ◌≢◌, ◌<◌, ◌≤◌, ◌+◌, ℕ, List, Option, length, None, IfOk, OnOk, vec_len};
+ghost use Rattle.std.specs.Prelude.{◌≡◌, ◌≢◌, ◌<◌, ◌≤◌, ◌+◌, ℕ, List, Option, length, take, None, IfOk, OnOk, vec_len};
 ghost use Rattle.std.specs.Io.KnownBytes.{Consumes, IsAtEnd};
 ghost use Rattle.mz_outside.specs.Front.{IsFront};
+ghost use Rattle.mz_outside.specs.Reading.{IsRead};
 
-use crate::{Store, StoreFault};
+use crate::{MOST_READ, MOST_TRIES, Store, StoreFault};
 use std::alloc::{AllocError, Global};
 use std::fs;
 use std::io::{self, ErrorKind, Read};
 use std::marker::Model;
 use std::rt::Files;
-
-/// The most bytes that are read of a file: 1 GiB and one more, so that a file without an end is answered too.
-pub const MOST_READ: usize = (1 << 30) + 1;
 
 /// The bytes of one read.
 const CHUNK: usize = 1 << 16;
@@ -58,7 +56,10 @@ impl<R: Files> Store for FileStore<'_, R> {
     ghost faults = { λ s. s };
 
     /// `Absent` is the runtime's "not found" at the opening. Anything else that fails is `Failed`.
-    fn read(&mut self, name: &str) -> Result<Vec<u8>, StoreFault> {
+    fn read(&mut self, name: &str) -> Result<Vec<u8>, StoreFault>
+        ensures read { IsRead None None self.old self.new name.now result }
+        ensures most { IfOk result (λ bytes. length bytes.items ≤ MOST_READ) }
+    {
         let answer = self.read_file(name);
         if let Err(StoreFault::Failed) = answer {
             self.faults = self.faults.saturating_add(1);
@@ -78,7 +79,7 @@ fn fault_of(error: &io::Error) -> StoreFault
 
 // All that is left of a reader, or its first `MOST_READ` bytes.
 #[tactic(auto, using(crate::proofs::FrontLemmas::fronts))]
-fn read_front<R: Read>(alloc: Global, reader: &mut R) -> Result<Vec<u8>, StoreFault>
+pub(crate) fn read_front<R: Read>(alloc: Global, reader: &mut R) -> Result<Vec<u8>, StoreFault>
     ensures front { IfOk result (λ bytes. IsFront MOST_READ (R.remaining reader.old) bytes.items) }
     ensures within { IfOk result (λ bytes. vec_len bytes ≤ MOST_READ) }
     ensures there { result ≢ Err StoreFault.Absent }
@@ -101,7 +102,25 @@ fn zeros(alloc: Global, count: usize) -> Result<Vec<u8>, AllocError>
     vec![in alloc; 0u8; count]
 }
 
-// Reads once, after what was read before, and answers how many bytes.
+// Reads once, and again where a signal interrupts it.
+fn read_some<R: Read>(reader: &mut R, chunk: &mut [u8]) -> Result<usize, StoreFault>
+    ensures room { length chunk.new ≡ length chunk.old }
+    ensures within { IfOk result (λ n. n ≤ length chunk.new) }
+    ensures consumed { IfOk result (λ n. Consumes (R.remaining reader.old) (R.remaining reader.new) (take n chunk.new)) }
+    ensures end { IfOk result (λ n. n ≡ 0 → 0 < length chunk.old → IsAtEnd (R.remaining reader.new)) }
+    ensures there { result ≢ Err StoreFault.Absent }
+{
+    for _ in 0..MOST_TRIES {
+        match reader.read(chunk) {
+            Ok(count) => return Ok(count),
+            Err(error) if error.kind() == ErrorKind::Interrupted => {}
+            Err(error) => return Err(fault_of(&error)),
+        }
+    }
+    Err(StoreFault::Failed)
+}
+
+// Reads after what was read before, and answers how many bytes.
 #[tactic(auto, using(crate::proofs::FrontLemmas::pieces))]
 fn read_piece<R: Read>(
     reader: &mut R,
@@ -114,11 +133,11 @@ fn read_piece<R: Read>(
     ensures consumed { OnOk result ((first : Option (List ℕ)) → Consumes first (R.remaining reader.old) bytes.old.items → Consumes first (R.remaining reader.new) bytes.new.items) }
     ensures there { result ≢ Err StoreFault.Absent }
 {
-    match reader.read(chunk) {
+    match read_some(reader, chunk) {
         Ok(count) => {
             bytes.extend_from_slice(&chunk[..count])?;
             Ok(count)
         }
-        Err(error) => Err(fault_of(&error)),
+        Err(fault) => Err(fault),
     }
 }

@@ -5,6 +5,7 @@
 
 mod file_list;
 mod file_store;
+mod limits;
 mod memory_sink;
 mod memory_store;
 mod out_sink;
@@ -13,10 +14,11 @@ mod sink;
 mod store;
 mod sure;
 
-pub use file_store::{FileStore, MOST_READ};
+pub use file_store::FileStore;
+pub use limits::{MOST_READ, MOST_TRIES, limits_are};
 pub use memory_sink::MemorySink;
 pub use memory_store::MemoryStore;
-pub use out_sink::OutSink;
+pub use out_sink::{OutSink, SteadyWriter};
 pub use sink::{Sink, SinkFault, write_all};
 pub use store::{Store, StoreFault};
 pub use sure::{SureSink, SureStore};

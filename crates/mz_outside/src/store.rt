@@ -1,6 +1,6 @@
 //! Files that are read whole, by name.
-ghost use Rattle.std.specs.Prelude.{◌≡◌, ℕ, ◌≤◌, List, Option, IfOk, IfSome, OnOk, IsErrOf};
-ghost use Rattle.mz_outside.specs.Causes.{Rose};
+ghost use Rattle.std.specs.Prelude.{◌≡◌, ℕ, List, Option};
+ghost use Rattle.mz_outside.specs.Reading.{IsRead};
 ghost use Rattle.mz_outside.specs.declared.store.StoreFault.TheVariants.{NoMemory};
 
 use std::alloc::{AllocError, AllocFailed};
@@ -41,14 +41,5 @@ pub trait Store {
 
     /// All the bytes of a file.
     fn read(&mut self, name: &str) -> Result<Vec<u8>, StoreFault>
-        ensures told { IfOk result (λ bytes. IfSome (files self.old) (λ named. named name.now ≡ Some bytes.items)) }
-        ensures absent { IsErrOf result StoreFault.Absent → IfSome (files self.old) (λ named. named name.now ≡ None) }
-        ensures same { files self.new ≡ files self.old }
-
-        // Each failed read is counted, and nothing else is.
-        ensures later { faults self.old ≤ faults self.new }
-        ensures failed { IsErrOf result StoreFault.Failed → Rose (faults self.old) (faults self.new) }
-        ensures ok_count { OnOk result (faults self.new ≡ faults self.old) }
-        ensures absent_count { IsErrOf result StoreFault.Absent → faults self.new ≡ faults self.old }
-        ensures memory_count { IsErrOf result StoreFault.NoMemory → faults self.new ≡ faults self.old };
+        ensures { IsRead (files self.old) (files self.new) (faults self.old) (faults self.new) name.now result };
 }

@@ -1,9 +1,13 @@
-ghost use Rattle.std.specs.Prelude.{◌≡◌, ◌≢◌, List, ℕ, IfSome};
+ghost use Rattle.std.specs.Prelude.{◌≡◌, ◌≢◌, List, ℕ, IfSome, Some, refl};
 ghost use Rattle.mz_outside.specs.Causes.{Rose};
+ghost use Rattle.mz_outside.specs.Reading.{KeepsStore};
 ghost use Rattle.mz_outside.specs.Taken.{with_more, AddsFront};
 
+use crate::file_store::read_front;
 use crate::*;
+use std::alloc::Global;
 use std::fs;
+use std::io::{self, ErrorKind, Read, Write};
 use std::test::Fail;
 
 const TEXT: &[u8] = b"some bytes\n";
@@ -23,13 +27,12 @@ fn copy_second<S: Store, K: Sink>(store: &mut S, sink: &mut K, first: &str, seco
     ensures done { result ≡ Status.Done → IfSome (S.files store.old) (λ named. (bytes : List ℕ) × (named second.now ≡ Some bytes) × (K.bytes sink.new ≡ with_more (K.bytes sink.old) bytes)) }
     ensures first { result ≡ Status.FirstAbsent → IfSome (S.files store.old) (λ named. named first.now ≡ None) }
     ensures second { result ≡ Status.SecondAbsent → IfSome (S.files store.old) (λ named. named second.now ≡ None) }
-    ensures read { result ≡ Status.ReadFault → Rose (S.faults store.old) (S.faults store.new) }
+    ensures store { KeepsStore (S.files store.old) (S.files store.new) (S.faults store.old) (S.faults store.new) (result ≡ Status.ReadFault) }
     ensures write { result ≡ Status.WriteFault → Rose (K.faults sink.old) (K.faults sink.new) }
     ensures front { result ≡ Status.WriteFault → IfSome (S.files store.old) (λ named. (bytes : List ℕ) × (named second.now ≡ Some bytes) × AddsFront (K.bytes sink.old) (K.bytes sink.new) bytes) }
     // Where no fault was counted and memory sufficed, a file that is missing is told.
     ensures missing_first { (Rose (S.faults store.old) (S.faults store.new) → ⊥) → result ≢ Status.Memory → IfSome (S.files store.old) (λ named. named first.now ≡ None → result ≡ Status.FirstAbsent) }
     ensures missing_second { (Rose (S.faults store.old) (S.faults store.new) → ⊥) → result ≢ Status.Memory → IfSome (S.files store.old) (λ named. (first_bytes : List ℕ) → named first.now ≡ Some first_bytes → named second.now ≡ None → result ≡ Status.SecondAbsent) }
-    ensures same { S.files store.new ≡ S.files store.old }
 {
     match store.read(first) {
         Ok(_) => {}
@@ -135,12 +138,13 @@ fn sure_ones_answer(rt: HostRuntime) -> Result<(), Fail> {
 fn real_files(rt: HostRuntime) -> Result<(), Fail> {
     let _ = fs::remove_dir_all(&rt, "mz_outside_test");
     fs::create_dir(&rt, "mz_outside_test")?;
-    let long = vec![in rt.alloc(); 7u8; 200_000]?;
+    // More than 1 MiB, and no multiple of what one read takes.
+    let long = vec![in rt.alloc(); 7u8; 3_000_001]?;
     fs::write(&rt, "mz_outside_test/long", long.as_slice())?;
     fs::write(&rt, "mz_outside_test/empty", b"".as_slice())?;
     let mut store = FileStore::new(&rt, rt.alloc());
     let cases = [
-        ("mz_outside_test/long", Ok(200_000)),
+        ("mz_outside_test/long", Ok(3_000_001)),
         ("mz_outside_test/empty", Ok(0)),
         ("mz_outside_test/none", Err(StoreFault::Absent)),
         ("mz_outside_test", Err(StoreFault::Failed)),
@@ -153,4 +157,140 @@ fn real_files(rt: HostRuntime) -> Result<(), Fail> {
     assert!(rt; store.read("mz_outside_test/long") == Ok(long));
     fs::remove_dir_all(&rt, "mz_outside_test")?;
     Ok(())
+}
+
+/// What comes to pass at the calls of a reader or a writer.
+#[derive(Clone, Copy)]
+struct Weather {
+    calls: u32,
+    /// So many calls are interrupted before each one that is not.
+    interrupted: u32,
+    /// This call fails. The first is 1.
+    failing: u32,
+}
+
+impl Weather {
+    fn next(&mut self) -> io::Result<()> {
+        self.calls = self.calls.saturating_add(1);
+        if self.calls == self.failing {
+            return Err(io::Error::from(ErrorKind::Other));
+        }
+        if self.interrupted == u32::MAX || self.calls % (self.interrupted + 1) != 0 {
+            return Err(io::Error::from(ErrorKind::Interrupted));
+        }
+        Ok(())
+    }
+}
+
+/// A writer that takes three bytes a write at most.
+struct RoughWriter {
+    held: Vec<u8>,
+    weather: Weather,
+}
+
+impl Write for RoughWriter {
+    ghost contents = { λ w. Some w.held.items };
+
+    fn write(&mut self, buf: &[u8]) -> io::Result<usize> {
+        self.weather.next()?;
+        let (front, _) = buf.split_at(buf.len().min(3));
+        self.held.extend_from_slice(front)?;
+        Ok(front.len())
+    }
+
+    fn flush(&mut self) -> io::Result<()> {
+        Ok(())
+    }
+}
+
+impl SteadyWriter for RoughWriter {
+    ghost steady = { λ _ _. refl };
+}
+
+/// How writing all of the text ended, what the writer holds, and how often it was called.
+fn written(alloc: Global, interrupted: u32, failing: u32) -> (Result<(), SinkFault>, Vec<u8>, u32) {
+    let mut writer = RoughWriter {
+        held: Vec::new(alloc),
+        weather: Weather {
+            calls: 0,
+            interrupted,
+            failing,
+        },
+    };
+    let mut sink = OutSink::new(&mut writer);
+    let answer = write_all(&mut sink, TEXT);
+    drop(sink);
+    let RoughWriter { held, weather } = writer;
+    (answer, held, weather.calls)
+}
+
+#[test]
+fn a_writer_that_fails_has_what_came_before(rt: HostRuntime) {
+    let cases: [(u32, Result<(), SinkFault>, &[u8]); 6] = [
+        (1, Err(SinkFault::Failed), b""),
+        (2, Err(SinkFault::Failed), b"som"),
+        (3, Err(SinkFault::Failed), b"some b"),
+        (4, Err(SinkFault::Failed), b"some byte"),
+        (5, Ok(()), TEXT),
+        (0, Ok(()), TEXT),
+    ];
+    for (failing, answer, held) in cases {
+        let (found, bytes, _) = written(rt.alloc(), 0, failing);
+        assert_eq!(rt; found, answer, "at write {failing}");
+        assert_eq!(rt; bytes.as_slice(), held, "at write {failing}");
+    }
+}
+
+#[test]
+fn an_interrupted_write_is_tried_again(rt: HostRuntime) {
+    let (answer, bytes, calls) = written(rt.alloc(), 2, 0);
+    assert_eq!(rt; answer, Ok(()));
+    assert_eq!(rt; bytes.as_slice(), TEXT);
+    assert_eq!(rt; calls, 12);
+    let (answer, bytes, calls) = written(rt.alloc(), u32::MAX, 0);
+    assert_eq!(rt; answer, Err(SinkFault::Failed));
+    assert_eq!(rt; bytes.len(), 0);
+    assert_eq!(rt; calls, MOST_TRIES);
+}
+
+/// A reader that gives four bytes a read at most.
+#[derive(Drop)]
+struct RoughReader<'a> {
+    left: &'a [u8],
+    weather: Weather,
+}
+
+impl Read for RoughReader<'_> {
+    fn read(&mut self, buf: &mut [u8]) -> io::Result<usize> {
+        self.weather.next()?;
+        let room = buf.len().min(4);
+        self.left.read(&mut buf[..room])
+    }
+}
+
+#[test]
+fn an_interrupted_read_is_tried_again(rt: HostRuntime) {
+    let cases = [
+        (0, 0, Ok(TEXT.len()), 4),
+        (2, 0, Ok(TEXT.len()), 12),
+        (2, 7, Err(StoreFault::Failed), 7),
+        (u32::MAX, 0, Err(StoreFault::Failed), MOST_TRIES),
+    ];
+    for (interrupted, failing, wanted, calls) in cases {
+        let mut reader = RoughReader {
+            left: TEXT,
+            weather: Weather {
+                calls: 0,
+                interrupted,
+                failing,
+            },
+        };
+        let answer = read_front(rt.alloc(), &mut reader);
+        assert_eq!(rt;
+            answer.map(|bytes| bytes.len()),
+            wanted,
+            "after {interrupted}"
+        );
+        assert_eq!(rt; reader.weather.calls, calls, "after {interrupted}");
+    }
 }

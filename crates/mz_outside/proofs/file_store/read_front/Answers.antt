@@ -1,5 +1,5 @@
 use Rattle.std.proofs.Common.{rules}
-use Rattle.mz_outside.specs.declared.file_store.TheConstants.{MOST_READ}
+use Rattle.mz_outside.specs.declared.limits.TheConstants.{MOST_READ}
 use Rattle.mz_outside.proofs.FrontLemmas.{IsFront-end}
 use Rattle.mz_outside.proofs.file_store.read_front.Goals as goal
 

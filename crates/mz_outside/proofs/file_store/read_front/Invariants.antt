@@ -1,6 +1,6 @@
 use Rattle.std.proofs.Common.{◌<◌, ◌≤◌, ◌-◌, vec_len}
 use Rattle.std.specs.Io.KnownBytes.{Consumes}
-use Rattle.mz_outside.specs.declared.file_store.TheConstants.{MOST_READ}
+use Rattle.mz_outside.specs.declared.limits.TheConstants.{MOST_READ}
 use Rattle.mz_outside.proofs.file_store.read_front.Given as goal
 
 abbrev pub invariant-pieces : goal.invariant-pieces
