@@ -44,7 +44,8 @@ pub fn registry<T: Drop, E: Drop, R: Wait>(
     start: Arc<T>,
     readers: usize,
 ) -> Result<(Publisher<T, E>, Vec<Reader<T, E>>), RegistryError>
-    requires { (0 < readers) × (readers < 2 ^ 32) }
+    requires some { 0 < readers }
+    requires bounded { readers < 2 ^ 32 }
     ensures history { IfOk result (λ made. made.0.log ≡ started (arc_value start) ∷ []) }
     ensures readers { IfOk result (λ made. made.1.items ≡ replicate readers (record { prefix = made.0; unmet = 0 })) }
 {

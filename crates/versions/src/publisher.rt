@@ -58,13 +58,13 @@ where
 
     ghost coded = { prefix_code T.code E.code };
 
-    ghost use Rattle.std.specs.Prelude.{◌≡◌, length, IfSome};
-    ghost use Rattle.versions.specs.Books.{head_of};
-    ghost use Rattle.versions.specs.Histories.{entries_of, Begins, IsPlace};
+    ghost use Rattle.std.specs.Prelude.{IfSome};
+    ghost use Rattle.versions.specs.Books.{Keeps};
+    ghost use Rattle.versions.specs.Histories.{Begins};
 
     ghost view = { λ p. p.newest.known };
 
-    ghost invariant = { λ p. (p.head ≡ head_of p.newest.known.registry) × (p.entries.items ≡ entries_of p.newest.known.log) × IsPlace (length p.entries.items) p.newest.known.log × IfSome p.copies (λ copies. Begins copies.desk.shown.value.known p.newest.known) };
+    ghost invariant = { λ p. Keeps p.newest.known p.head p.entries.items × IfSome p.copies (λ copies. Begins copies.desk.shown.value.known p.newest.known) };
 }
 
 impl<T: Drop, E: Drop> Publisher<T, E> {
@@ -97,7 +97,8 @@ impl<T: Drop, E: Drop> Publisher<T, E> {
         ensures ok { OnOk result (self.new ≡ after_operation self.old (arc_value value) entry) }
         ensures receipt { IfOk result (λ receipt. receipt ≡ self.new) }
         ensures err { OnErr result (self.new ≡ self.old) }
-        ensures back { IfErr result (λ back. (back.0 ≡ value) × (back.1 ≡ entry)) }
+        ensures value_back { IfErr result (λ back. back.0 ≡ value) }
+        ensures entry_back { IfErr result (λ back. back.1 ≡ entry) }
     {
         if self.entries.reserve(1).is_err() {
             return Err((value, entry, NoMemory));

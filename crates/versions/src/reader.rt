@@ -56,7 +56,8 @@ impl<T: Drop, E: Drop> Reader<T, E> {
     /// The value of the registry, and how many operations led to it. It is never older than one that this reader took
     /// before or was told of.
     pub fn take(&mut self) -> Result<(Arc<T>, u64), NoMemory>
-        ensures ok { IfOk result (λ answer. (latest self.new.prefix.log ≡ Some (arc_value answer.0)) × IsPlace answer.1 self.new.prefix.log) }
+        ensures value { IfOk result (λ answer. latest self.new.prefix.log ≡ Some (arc_value answer.0)) }
+        ensures place { IfOk result (λ answer. IsPlace answer.1 self.new.prefix.log) }
         ensures grows { Begins self.old.prefix self.new.prefix }
 
         // The reader is as before where it could not look, and answers from what it keeps.

@@ -1,7 +1,7 @@
-use Rattle.std.proofs.Common.{◌≡◌, [], ◌∷◌, ◌++◌, length, sym, ap, subst, ◌∙◌, Some, IfSome}
+use Rattle.std.proofs.Common.{◌≡◌, [], ◌∷◌, ◌++◌, sym, ap, subst, ◌∙◌, Some, IfSome}
 use Rattle.std.specs.Arc.{arc_value}
-use Rattle.versions.specs.Books.{head_of}
-use Rattle.versions.specs.Histories.{after_operation, entries_of, installed, latest, Begins, IsPlace}
+use Rattle.versions.specs.Books.{Keeps}
+use Rattle.versions.specs.Histories.{after_operation, installed, latest, Begins}
 use Rattle.versions.proofs.Histories.{latest-snoc, entries-snoc}
 use Rattle.versions.proofs.publisher.Publisher.publish.Goals as goal
 
@@ -23,8 +23,8 @@ invariant_of-self-2 g c =
     let entered : c.add.new.self ≡ after_operation c.again-known.result value c.args.entry = c.if-not-add.ensures in
     let known : c.new-2.result.known ≡ after_operation before value c.args.entry = c.new-2.ensures.known ∙ (entered ∙ ap (λ p. after_operation p value c.args.entry) c.again-known.ensures) in
     let pushed : items ≡ c.self.inside.entries.items ++ c.args.entry ∷ [] = c.push_reserved.ensures.items ∙ ap (λ entries. entries ++ c.args.entry ∷ []) c.reserve.ensures.items in
-    let entries = entries-snoc before.log value c.args.entry c.self.inside.entries.items items c.self.invariant.1 c.self.invariant.2 pushed in
-    let whole = subst (λ p. (c.self.inside.head ≡ head_of p.registry) × (items ≡ entries_of p.log) × IsPlace (length items) p.log) (sym known) (c.self.invariant.0, entries.0, entries.1) in
+    let entries = entries-snoc before.log value c.args.entry c.self.inside.entries.items items c.self.invariant.0.entries_are c.self.invariant.0.all pushed in
+    let whole = subst (λ p. Keeps p c.self.inside.head items) (sym known) (record { head = c.self.invariant.0.head; entries_are = entries.0; all = entries.1 }) in
     let operation : c.new-operation.result.known ≡ c.new-2.result.known = c.new-operation.ensures.known ∙ (c.again-2.ensures ∙ sym c.new-2.ensures.known) in
     let shown = subst (λ p. IfSome c.show.new.copies (λ copies. Begins copies.desk.shown.value.known p)) operation c.show.ensures in
-    (whole.0, whole.1, whole.2, shown)
+    (whole, shown)
