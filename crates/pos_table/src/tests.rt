@@ -1,6 +1,10 @@
+ghost use Rattle.std.specs.Prelude.{◌≡◌, IfOk};
+
 use super::*;
 use mz_base::FaultKind::{Empty, Fields, Limit, NoFeature, NotUtf8, Number, Range};
-use mz_base::{Class, FaultKind, NoMemory, ReadError, Text};
+use mz_base::{
+    Class, FaultKind, IdRow, JoinRow, NoMemory, PosRow, ReadError, Text, UnknownRow, ValueRow,
+};
 use std::alloc::Global;
 
 fn outcome(answer: Result<usize, ReadError>) -> Option<Result<usize, FaultKind>> {
@@ -460,6 +464,194 @@ fn keeps_its_limits_of_rows(rt: HostRuntime) -> Result<(), NoMemory> {
             Some(wanted),
             "case {index}"
         );
+    }
+    Ok(())
+}
+
+/// A row that is shown, and copied.
+trait Row {
+    fn shown(&self, alloc: Global) -> Result<String, NoMemory>;
+
+    fn copied(&self, alloc: Global) -> Result<Self, NoMemory>
+        ensures { IfOk result (λ row. row ≡ self.now) };
+}
+
+impl Row for IdRow {
+    fn shown(&self, alloc: Global) -> Result<String, NoMemory> {
+        Ok(format!(in alloc; "{} {}/", self.id, self.feature)?)
+    }
+
+    fn copied(&self, alloc: Global) -> Result<IdRow, NoMemory> {
+        Ok(IdRow {
+            id: self.id,
+            feature: self.feature.copy(alloc)?,
+        })
+    }
+}
+
+impl Row for UnknownRow {
+    fn shown(&self, alloc: Global) -> Result<String, NoMemory> {
+        Ok(format!(in alloc; "{} {}/", self.id, self.cost)?)
+    }
+
+    fn copied(&self, _alloc: Global) -> Result<UnknownRow, NoMemory> {
+        Ok(*self)
+    }
+}
+
+impl Row for JoinRow {
+    fn shown(&self, alloc: Global) -> Result<String, NoMemory> {
+        Ok(format!(in alloc;
+            "{} {} {} {}/",
+            self.first_right, self.last_right, self.first_left, self.last_left
+        )?)
+    }
+
+    fn copied(&self, _alloc: Global) -> Result<JoinRow, NoMemory> {
+        Ok(*self)
+    }
+}
+
+impl Row for PosRow {
+    fn shown(&self, alloc: Global) -> Result<String, NoMemory> {
+        Ok(format!(in alloc; "{} {} {}/", self.name, self.id, self.cost)?)
+    }
+
+    fn copied(&self, alloc: Global) -> Result<PosRow, NoMemory> {
+        Ok(PosRow {
+            name: self.name.copy(alloc)?,
+            id: self.id,
+            cost: self.cost,
+        })
+    }
+}
+
+impl Row for ValueRow {
+    fn shown(&self, alloc: Global) -> Result<String, NoMemory> {
+        Ok(format!(in alloc; "{} {}/", self.reading, self.value)?)
+    }
+
+    fn copied(&self, alloc: Global) -> Result<ValueRow, NoMemory> {
+        Ok(ValueRow {
+            reading: self.reading.copy(alloc)?,
+            value: self.value.copy(alloc)?,
+        })
+    }
+}
+
+fn all_copied<T: Row + Drop>(alloc: Global, rows: &[T]) -> Result<Vec<T>, NoMemory>
+    ensures { IfOk result (λ copy. copy.items ≡ rows.now) }
+{
+    let mut copy = Vec::new(alloc);
+    for row in rows {
+        copy.push(row.copied(alloc)?)?;
+    }
+    Ok(copy)
+}
+
+fn show<T: Row>(alloc: Global, text: &mut String, rows: &[T]) -> Result<(), NoMemory> {
+    for row in rows {
+        text.push_str(row.shown(alloc)?.as_str())?;
+    }
+    Ok(())
+}
+
+/// The rows of a value as text, and those of one that is made of a copy of them.
+fn twice<T: Row>(alloc: Global, rows: &[T], copy: &[T]) -> Result<String, NoMemory> {
+    let mut text = String::new(alloc);
+    show(alloc, &mut text, rows)?;
+    text.push_str("= ")?;
+    show(alloc, &mut text, copy)?;
+    Ok(text)
+}
+
+fn ids_twice(alloc: Global, bytes: &[u8]) -> Result<String, ReadError> {
+    let ids = read_ids(alloc, bytes, 10)?;
+    let copy = Ids::from_rows(all_copied(alloc, ids.rows())?);
+    Ok(twice(alloc, ids.rows(), copy.rows())?)
+}
+
+fn unknown_twice(alloc: Global, bytes: &[u8]) -> Result<String, ReadError> {
+    let unknown = read_unknown(alloc, bytes, 10)?;
+    let [hiragana, katakana, digit, letter, other] = unknown.rows() else {
+        return Err(ReadError::NoMemory);
+    };
+    let copy = Unknown::from_rows([*hiragana, *katakana, *digit, *letter, *other]);
+    Ok(twice(alloc, unknown.rows(), copy.rows())?)
+}
+
+fn joins_twice(alloc: Global, bytes: &[u8]) -> Result<String, ReadError> {
+    let joins = read_joins(alloc, bytes, 10)?;
+    let copy = Joins::from_rows(all_copied(alloc, joins.rows())?);
+    Ok(twice(alloc, joins.rows(), copy.rows())?)
+}
+
+fn parts_twice(alloc: Global, bytes: &[u8]) -> Result<String, ReadError> {
+    let ids = read_ids(alloc, b"4 noun\n3 noun\n5 verb\n", 10)?;
+    let pos = read_user_pos(alloc, bytes, &ids)?;
+    let copy = UserPos::from_rows(all_copied(alloc, pos.rows())?);
+    Ok(twice(alloc, pos.rows(), copy.rows())?)
+}
+
+fn symbols_twice(alloc: Global, bytes: &[u8]) -> Result<String, ReadError> {
+    let symbols = read_symbols(alloc, bytes)?;
+    let copy = Symbols::from_rows(alloc, all_copied(alloc, symbols.rows())?)?;
+    Ok(twice(alloc, symbols.rows(), copy.rows())?)
+}
+
+fn kanji_twice(alloc: Global, bytes: &[u8]) -> Result<String, ReadError> {
+    let kanji = read_kanji(alloc, bytes)?;
+    let copy = Kanji::from_rows(alloc, all_copied(alloc, kanji.rows())?)?;
+    Ok(twice(alloc, kanji.rows(), copy.rows())?)
+}
+
+fn rows_twice(alloc: Global, file: File, bytes: &[u8]) -> Result<String, ReadError> {
+    match file {
+        File::Ids => ids_twice(alloc, bytes),
+        File::Unknown => unknown_twice(alloc, bytes),
+        File::Segments => joins_twice(alloc, bytes),
+        File::Parts => parts_twice(alloc, bytes),
+        File::Symbols => symbols_twice(alloc, bytes),
+        File::Kanji => kanji_twice(alloc, bytes),
+    }
+}
+
+/// The rows of each file in their order. A value of a copy of them has the same.
+#[test]
+fn a_copy_of_rows_gives_the_same(rt: HostRuntime) -> Result<(), ReadError> {
+    let alloc = rt.alloc();
+    let cases = [
+        (
+            File::Ids,
+            "7 x\n1 a\n2 b\n1 c d\n",
+            "1 c d/2 b/7 x/= 1 c d/2 b/7 x/",
+        ),
+        (
+            File::Unknown,
+            "DIGIT\t1\t1\nOTHER\t2\t2\nDIGIT\t3\t3\n",
+            "2 2/2 2/3 3/2 2/2 2/= 2 2/2 2/3 3/2 2/2 2/",
+        ),
+        (
+            File::Segments,
+            "5\t5\t0\t9\n1\t2\t3\t4\n",
+            "5 5 0 9/1 2 3 4/= 5 5 0 9/1 2 3 4/",
+        ),
+        // Of one name the last row, and the names by their bytes: か is E3 81 8B, が E3 81 8C, 名 E5 90 8D.
+        (
+            File::Parts,
+            "名\tnoun\t1\nが\tverb\t2\nv\tverb\t3\nか\tnoun\t4\nv\tnoun\t5\n",
+            "v 3 5/か 3 4/が 5 2/名 3 1/= v 3 5/か 3 4/が 5 2/名 3 1/",
+        ),
+        (
+            File::Symbols,
+            "ほし\t☆\nい\t＝\nほし\t★\n",
+            "ほし ☆/い ＝/ほし ★/= ほし ☆/い ＝/ほし ★/",
+        ),
+        (File::Kanji, "か\t火花\nあ\t亜\n", "か 火花/あ 亜/= か 火花/あ 亜/"),
+    ];
+    for (file, text, wanted) in cases {
+        let rows = rows_twice(alloc, file, text.as_bytes())?;
+        assert_eq!(rt; rows.as_str(), wanted, "{file:?}");
     }
     Ok(())
 }
