@@ -14,6 +14,6 @@ mod tests;
 pub use laws::{limits_are, manifests_are_sound, manifests_need_no_memory};
 pub use manifest::{
     ClientLine, DictLine, FileLine, MOST_CLIENTS, MOST_DICTIONARIES, MOST_LOADERS, MOST_SETS,
-    MOST_USERS, Manifest, ManifestError, read_manifest,
+    MOST_USERS, Manifest, ManifestError, read_lines, read_manifest,
 };
 pub use names::{MOST_NAME_BYTES, MOST_PATH_BYTES};

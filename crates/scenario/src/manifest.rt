@@ -1,5 +1,5 @@
 ghost use Rattle.std.specs.Prelude.{◌≡◌, ◌≤◌, IfOk, length};
-ghost use Rattle.mz_base.specs.Lines.{lines_of};
+ghost use Rattle.mz_base.specs.Lines.{lines_of, pointed};
 ghost use Rattle.scenario.specs.ManifestAnswers.{GivesManifest};
 ghost use Rattle.scenario.specs.Manifests.{manifest_of};
 
@@ -114,6 +114,15 @@ pub fn read_manifest(alloc: Global, bytes: &[u8]) -> Result<Manifest, ManifestEr
     ensures files { IfOk result (λ manifest. length manifest.files ≤ length (lines_of bytes.now)) }
 {
     let lines = cut_lines(alloc, bytes)?;
+    read_lines(alloc, lines.as_slice())
+}
+
+/// The manifest of these lines, which stand without their ends, or the first that is bad or too large.
+pub fn read_lines(alloc: Global, lines: &[&[u8]]) -> Result<Manifest, ManifestError>
+    ensures told { GivesManifest result (manifest_of (pointed lines.now)) }
+    ensures sets { IfOk result (λ manifest. length manifest.sets ≤ MOST_SETS) }
+    ensures files { IfOk result (λ manifest. length manifest.files ≤ length (pointed lines.now)) }
+{
     let mut draft = Draft::new(alloc);
     for (index, line) in lines.iter().enumerate() {
         draft.read_line(index as u64 + 1, line)?;
