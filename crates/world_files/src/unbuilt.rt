@@ -6,8 +6,8 @@ ghost use Rattle.world_files.specs.Reading.{IsRefusal, Tells, UnlessFree};
 ghost use Rattle.world_files.specs.Unbuilt.{single_of, single_in, is_same, is_second, is_dictionary, is_certificates, is_other_file, is_unbuilt, text_fields, unbuilt_line, refused_line, manifest_refusal, or_unbuilt, manifest_served};
 
 use crate::refusal::Refusal;
-use mz_base::{FileLines, NoMemory, Text, cut_fields, text_of_line};
-use scenario::{Manifest, ManifestError, read_manifest};
+use mz_base::{NoMemory, Text, cut_fields, cut_lines, text_of_line};
+use scenario::{Manifest, ManifestError, read_lines};
 use std::alloc::Global;
 
 /// A word of a manifest of which a run takes one line.
@@ -31,8 +31,9 @@ pub fn manifest_served(
     ensures files { IfOk result (λ manifest. length manifest.files ≤ length (lines_of bytes.now)) }
     ensures reads_nothing { result ≢ Err Refusal.ReadFault }
 {
-    let unbuilt = unbuilt_line(alloc, in_run, bytes)?;
-    or_unbuilt(alloc, name, read_manifest(alloc, bytes), unbuilt)
+    let lines = cut_lines(alloc, bytes)?;
+    let unbuilt = unbuilt_line(alloc, in_run, lines.as_slice())?;
+    or_unbuilt(alloc, name, read_lines(alloc, lines.as_slice()), unbuilt)
 }
 
 fn or_unbuilt(
@@ -95,16 +96,14 @@ pub fn unbuilt_at(alloc: Global, name: &Text, line: u64) -> Refusal
 }
 
 /// The number of the first line of a manifest that is not built, from 1.
-fn unbuilt_line(alloc: Global, in_run: bool, bytes: &[u8]) -> Result<Option<u64>, NoMemory>
-    ensures { IfOk result (λ line. line ≡ unbuilt_line in_run (lines_of bytes.now)) }
+fn unbuilt_line(alloc: Global, in_run: bool, lines: &[&[u8]]) -> Result<Option<u64>, NoMemory>
+    ensures { IfOk result (λ line. line ≡ unbuilt_line in_run (pointed lines.now)) }
 {
     let mut seen = Vec::new(alloc);
-    let mut number = 0;
-    for line in FileLines::of(bytes) {
-        number += 1;
+    for (index, line) in lines.iter().enumerate() {
         let fields = text_fields(alloc, line)?;
         if is_unbuilt(in_run, seen.as_slice(), fields.as_slice()) {
-            return Ok(Some(number));
+            return Ok(Some(index as u64 + 1));
         }
         note(&mut seen, single_in(fields.as_slice()))?;
     }
