@@ -1,6 +1,8 @@
 mod AnswerSteps
+mod LineLaws
 mod ManifestSteps
 mod MemoryLaws
 mod NameLaws
+mod SetNames
 mod SetSteps
 mod SoundLaws

@@ -1,4 +1,5 @@
 pub mod Entries
+pub mod LineByLine
 pub mod ManifestAnswers
 pub mod Manifests
 pub mod Names

@@ -1,9 +1,12 @@
 //! What follows from the definition of a manifest, for all lines. A caller of these learns them; nothing runs.
 
-ghost use Rattle.std.specs.Prelude.{◌≡◌, ◌≢◌, ℕ, List, Ok, Err};
-ghost use Rattle.scenario.specs.Manifests.{manifest_of};
+ghost use Rattle.std.specs.Prelude.{◌≡◌, ◌≢◌, ◌⊎◌, ◌<◌, ℕ, List, length, Ok, Err};
+ghost use Rattle.std.specs.List.{flat_map};
+ghost use Rattle.scenario.specs.LineByLine.{IsFirstRefused, IsRead, IsUnfinished, set_named};
+ghost use Rattle.scenario.specs.Manifests.{Told, manifest_of, nothing_told};
 ghost use Rattle.scenario.specs.Sound.{IsSound};
 ghost use Rattle.scenario.specs.declared.manifest.Manifest.{Manifest};
+ghost use Rattle.scenario.specs.declared.manifest.ManifestError.{ManifestError};
 ghost use Rattle.scenario.specs.declared.manifest.ManifestError.TheVariants.{NoMemory};
 
 use crate::manifest::{MOST_CLIENTS, MOST_DICTIONARIES, MOST_LOADERS, MOST_SETS, MOST_USERS};
@@ -29,4 +32,18 @@ pub fn limits_are()
     ensures loaders { MOST_LOADERS ≡ 4 }
     ensures name_bytes { MOST_NAME_BYTES ≡ 64 }
     ensures path_bytes { MOST_PATH_BYTES ≡ 1024 }
+{}
+
+/// A manifest that reads has each of its lines read, one after the other. One that does not has a first line that is
+/// refused, or lacks something after its last line.
+pub fn manifests_go_line_by_line()
+    ensures ok { (lines : List (List ℕ)) (manifest : Manifest) → manifest_of lines ≡ Ok manifest →
+        (place : ℕ) → place < length lines → (next : Told) × IsRead nothing_told 1 lines place next }
+    ensures err { (lines : List (List ℕ)) (refused : ManifestError) → manifest_of lines ≡ Err refused →
+        IsFirstRefused nothing_told 1 lines refused ⊎ IsUnfinished nothing_told 1 lines refused }
+{}
+
+/// The sets of a manifest are the names of its `DATASET` lines, in order.
+pub fn sets_are_named_in_order()
+    ensures { (lines : List (List ℕ)) (manifest : Manifest) → manifest_of lines ≡ Ok manifest → manifest.sets ≡ flat_map set_named lines }
 {}

@@ -11,7 +11,10 @@ mod names;
 #[cfg(test)]
 mod tests;
 
-pub use laws::{limits_are, manifests_are_sound, manifests_need_no_memory};
+pub use laws::{
+    limits_are, manifests_are_sound, manifests_go_line_by_line, manifests_need_no_memory,
+    sets_are_named_in_order,
+};
 pub use manifest::{
     ClientLine, DictLine, FileLine, MOST_CLIENTS, MOST_DICTIONARIES, MOST_LOADERS, MOST_SETS,
     MOST_USERS, Manifest, ManifestError, read_lines, read_manifest,
