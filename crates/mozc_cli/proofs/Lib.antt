@@ -1,2 +1,3 @@
+pub mod KeyAnswers
 pub mod Runs
 pub mod Settling

@@ -1,26 +1,13 @@
--- What a conversion answers, and the verdict on a certificate: docs/FORMATS.md, "Convert and verify".
+-- The verdict on a certificate: docs/FORMATS.md, "Convert and verify".
 use Rattle.std.specs.Prelude.{◌≡◌, ℕ, List, [], Result}
 use Rattle.mz_base.specs.Data.{DataLists}
 use Rattle.mz_base.specs.declared.lattice.Certificate.{Certificate}
 use Rattle.mz_base.specs.declared.lattice.Lattice.{Lattice}
 use Rattle.mz_base.specs.declared.status.CertFault.{CertFault}
-use Rattle.conversion_meaning.specs.Best.{IsBest}
 use Rattle.conversion_meaning.specs.Certificates.{claim_of}
 use Rattle.conversion_meaning.specs.Lattices.{IsLatticeOf}
-use Rattle.conversion_meaning.specs.Paths.{path_cost, whole}
-use Rattle.conversion_meaning.specs.Potentials.{AreLeastCosts}
+use Rattle.conversion_meaning.specs.Paths.{whole}
 use Rattle.conversion_meaning.specs.Verdicts.{IsVerdict}
-
--- the certificate of the best path over a key, of all paths within the bounds, with no user words
-pub record IsAnswerTo (set : DataLists) (key bounds : List ℕ) (certificate : Certificate) : Type 0 where
-  pub lattice : Lattice
-  pub of_key : IsLatticeOf set [] lattice
-  pub key_is : lattice.key ≡ key
-  pub bounds_are : lattice.bounds ≡ bounds
-  pub best : IsBest set lattice.entries (whole lattice 0) certificate.path
-  pub total_is : certificate.total ≡ path_cost set lattice.entries (whole lattice 0) certificate.path
-  pub least : AreLeastCosts set lattice.entries (whole lattice 0) certificate.potentials
-  pub same_bounds : certificate.bounds ≡ bounds
 
 -- the verdict on a certificate for a key, within its own bounds
 pub record IsVerdictOn (set : DataLists) (key : List ℕ) (certificate : Certificate) (verdict : Result (Unit {0}) CertFault) : Type 0 where

@@ -1,5 +1,5 @@
 -- What the program's answer says, and what it writes: docs/FORMATS.md, "Statuses".
-use Rattle.std.specs.Prelude.{◌≡◌, ⊤, ℕ, Bool, true, false, List, ◌++◌, Option, unwrap_or, Result, Ok, Err, if◌then◌else◌, codes, length, nat_lt}
+use Rattle.std.specs.Prelude.{[], ◌≡◌, ⊤, ℕ, Bool, true, false, List, ◌++◌, Option, unwrap_or, Result, Ok, Err, if◌then◌else◌, codes, length, nat_lt}
 use Rattle.std.specs.List.{list_any}
 use Rattle.std.specs.Fmt.{signed_decimal}
 use Rattle.mz_base.specs.Answers.{◌>>=◌}
@@ -14,9 +14,11 @@ use Rattle.mz_base.specs.declared.status.Limit.TheVariants.{Report}
 use Rattle.mz_base.specs.declared.status.Status.{Status}
 use Rattle.mz_base.specs.declared.status.Status.TheVariants as status
 use Rattle.mz_outside.specs.Taken.{with_more, AddsFront}
-use Rattle.mozc_cli.specs.Conversions.{IsAnswerTo, IsVerdictOn}
+use Rattle.conversion_meaning.specs.Answers.{answer}
+use Rattle.mozc_cli.specs.Conversions.{IsVerdictOn}
 use Rattle.mozc_cli.specs.Core.{State, play, run_order, start}
 use Rattle.world_files.specs.Queries.{Claimed, query_set, query_claim}
+use Rattle.world_files.specs.declared.query.Query.{Query}
 use Rattle.world_files.specs.Reading.{Files, UnlessFree}
 use Rattle.mozc_cli.specs.Texts.{report_text}
 use Rattle.world_files.specs.Worlds.{World, world, listing}
@@ -76,11 +78,13 @@ run_meant files name = world files name >>= (λ world. limited (run_output world
 abbrev pub check_meant : Files → List ℕ → Result Output Refusal
 check_meant files name = listing files name >>= (λ text. limited (list_output text))
 
--- what a conversion gives: the certificate of the best path
-abbrev pub MeansAnswer : List ℕ → List ℕ → Result DataLists Refusal → Result Output Refusal → Type 0
-MeansAnswer key bounds (Err refused) meant = meant ≡ Err refused
-MeansAnswer key bounds (Ok set) meant =
-    (certificate : Certificate) × IsAnswerTo set key bounds certificate × (meant ≡ limited (list_output (certificate_text certificate)))
+-- what the text of a key's answer gives, by a data set with no user words
+abbrev pub answered : List ℕ → List ℕ → DataLists → Result Output Refusal
+answered key bounds set = limited (list_output (certificate_text (answer set [] key bounds)))
+
+-- what converting a key gives: its answer by the data set that is asked
+abbrev pub convert_meant : Files → Query → List ℕ → Result Output Refusal
+convert_meant files query bounds = query_set files query >>= answered query.key bounds
 
 -- what is written of a certificate that holds, or its first fault
 abbrev pub verdict_output : Certificate → Result (Unit {0}) CertFault → Result Output Refusal
@@ -98,7 +102,7 @@ MeansVerdict key (Ok claimed) meant =
 abbrev pub Means : Files → Request → Result Output Refusal → Type 0
 Means files (request.Run name) meant = meant ≡ run_meant files name
 Means files (request.Check name) meant = meant ≡ check_meant files name
-Means files (request.Convert query bounds) meant = MeansAnswer query.key bounds (query_set files query) meant
+Means files (request.Convert query bounds) meant = meant ≡ convert_meant files query bounds
 Means files (request.Verify query name) meant = MeansVerdict query.key (query_claim files query name) meant
 
 -- the output was written whole, and each expectation is met in it, or not

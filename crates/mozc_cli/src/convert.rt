@@ -1,7 +1,8 @@
 ghost use Rattle.std.specs.Prelude.{◌≡◌, ◌<◌, ◌^◌, [], IfOk, length};
 ghost use Rattle.conversion_meaning.specs.Lattices.{AreBounds, IsKey, IsLatticeOf, IsWellFormed};
 ghost use Rattle.conversion_meaning.specs.Paths.{whole};
-ghost use Rattle.mozc_cli.specs.Conversions.{IsAnswerTo, IsVerdictOn};
+ghost use Rattle.conversion_meaning.specs.Answers.{answer};
+ghost use Rattle.mozc_cli.specs.Conversions.{IsVerdictOn};
 
 use mz_base::{CertFault, Certificate, DataSet, Lattice, NoMemory, NoUserWords, Span};
 use std::alloc::Global;
@@ -15,10 +16,11 @@ pub fn convert<D: DataSet>(
 ) -> Result<Certificate, NoMemory>
     requires key { IsKey key.now }
     requires bounds { AreBounds key.now bounds.now }
-    ensures { IfOk result (IsAnswerTo (D.lists set.now) key.now bounds.now) }
+    ensures { IfOk result (λ certificate. certificate ≡ answer (D.lists set.now) [] key.now bounds.now) }
 {
     let lattice = lattice::build(alloc, set, &NoUserWords::new(alloc), key, bounds)?;
-    viterbi::solve(alloc, set, &lattice, &whole(&lattice))
+    let certificate = viterbi::solve(alloc, set, &lattice, &whole(&lattice))?;
+    Ok(certificate)
 }
 
 /// The verdict on a certificate for a key, within the certificate's bounds.

@@ -8,7 +8,7 @@ ghost use Rattle.world_files.specs.Queries.{query_set, query_claim};
 ghost use Rattle.world_files.specs.Reading.{Files, Reads, Tells};
 ghost use Rattle.mozc_cli.specs.Args.{IsFit};
 ghost use Rattle.mozc_cli.specs.Reported.{shown, TellsMeant};
-ghost use Rattle.mozc_cli.specs.Settles.{Means, MeansAnswer, MeansVerdict, has_differs, list_output, run_output, run_meant, check_meant, limited};
+ghost use Rattle.mozc_cli.specs.Settles.{Means, MeansVerdict, answered, convert_meant, has_differs, list_output, run_output, run_meant, check_meant, limited};
 ghost use Rattle.mozc_cli.specs.Texts.{client_name};
 
 use crate::args::Request;
@@ -83,7 +83,7 @@ fn conversion_in<S: Store>(
 ) -> Result<Output, Refusal>
     requires some { 0 < length query.now.key }
     requires bounds { AreBounds query.now.key bounds.now }
-    ensures told { (files : Files) → S.files store.old ≡ Some files → TellsMeant (MeansAnswer query.now.key bounds.now (query_set files query.now)) result }
+    ensures told { (files : Files) → S.files store.old ≡ Some files → Tells shown result (convert_meant files query.now bounds.now) }
     ensures reads { Reads (S.files store.old) (S.files store.new) (S.faults store.old) (S.faults store.new) result }
 {
     let key = query.key.to_text(alloc)?;
@@ -119,7 +119,7 @@ fn converted<D: DataSet>(
 ) -> Result<Output, Refusal>
     requires key { IsKey key.now }
     requires bounds { AreBounds key.now bounds.now }
-    ensures told { TellsMeant (MeansAnswer key.now bounds.now (Ok (D.lists set.now))) result }
+    ensures told { Tells shown result (answered key.now bounds.now (D.lists set.now)) }
     ensures reads_nothing { result ≢ Err Refusal.ReadFault }
 {
     let bounds = bounds.to_vec(alloc)?;
