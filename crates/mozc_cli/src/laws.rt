@@ -1,10 +1,17 @@
-ghost use Rattle.std.specs.Prelude.{◌≡◌, Some};
+ghost use Rattle.std.specs.Prelude.{◌≡◌, ◌^◌, Some};
 ghost use Rattle.mozc_cli.specs.Core.{State, play, run_order, IsComplete};
 ghost use Rattle.world_files.specs.Worlds.{World};
+
+use crate::outputs::MOST_OUTPUT_BYTES;
 
 /// The order of a run is legal: each of its events is. It is complete: the job and each command come, the client ends
 /// and the log closes. And the events that its play notes are the order itself.
 pub fn run_order_is_complete()
     ensures { (world : World) →
         (state : State) × (play world (run_order world) ≡ Some state) × IsComplete state × (state.events ≡ run_order world) }
+{}
+
+/// The most bytes of an output. The definition cites the constant, so a wrong one would move it along.
+pub fn limits_are()
+    ensures output { MOST_OUTPUT_BYTES ≡ 2 ^ 30 }
 {}

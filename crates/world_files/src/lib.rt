@@ -5,6 +5,7 @@
 #![tactic(auto)]
 
 mod bounds;
+mod laws;
 mod name;
 mod query;
 mod reading;
@@ -15,6 +16,7 @@ mod unbuilt;
 mod world;
 
 pub use bounds::Bounds;
+pub use laws::limits_are;
 pub use name::Name;
 pub use query::{Claim, Query, read_claim, read_set};
 pub use reading::{DataFile, Found, MOST_READ_BYTES};
