@@ -1,3 +1,5 @@
+pub mod AnswersHold
 pub mod KeyAnswers
 pub mod Runs
 pub mod Settling
+pub mod SomeLattice

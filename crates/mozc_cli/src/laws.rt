@@ -1,4 +1,7 @@
-ghost use Rattle.std.specs.Prelude.{◌≡◌, ◌^◌, Some};
+ghost use Rattle.std.specs.Prelude.{◌≡◌, ◌^◌, ℕ, List, Some};
+ghost use Rattle.mz_base.specs.Data.{DataLists, AreDataSound};
+ghost use Rattle.conversion_meaning.specs.Lattices.{AreBounds, IsKey};
+ghost use Rattle.mozc_cli.specs.Conversions.{AnswerHolds};
 ghost use Rattle.mozc_cli.specs.Core.{State, play, run_order, IsComplete};
 ghost use Rattle.world_files.specs.Worlds.{World};
 
@@ -9,6 +12,12 @@ use crate::outputs::MOST_OUTPUT_BYTES;
 pub fn run_order_is_complete()
     ensures { (world : World) →
         (state : State) × (play world (run_order world) ≡ Some state) × IsComplete state × (state.events ≡ run_order world) }
+{}
+
+/// What converting a key writes reads as its answer, and testing that by the same data set finds no fault.
+pub fn answers_hold()
+    ensures { (set : DataLists) (key bounds : List ℕ) → AreDataSound set → IsKey key → AreBounds key bounds →
+        AnswerHolds set key bounds }
 {}
 
 /// The most bytes of an output. The definition cites the constant, so a wrong one would move it along.

@@ -16,7 +16,7 @@ mod statuses;
 
 pub use args::Request;
 pub use command::local;
-pub use laws::{limits_are, run_order_is_complete};
+pub use laws::{answers_hold, limits_are, run_order_is_complete};
 pub use outputs::{MOST_OUTPUT_BYTES, Output};
 pub use program::{Action, Ending, Told, action_for, ending_of, tell};
 pub use report::Named;

@@ -1,8 +1,8 @@
-mod AnswerSteps
+pub mod AnswerSteps
 mod LineLaws
 mod ManifestSteps
 mod MemoryLaws
-mod NameLaws
+pub mod NameLaws
 mod SetNames
 mod SetSteps
-mod SoundLaws
+pub mod SoundLaws

@@ -3,4 +3,5 @@ pub mod LineCounts
 pub mod ListingSteps
 pub mod ReadLaws
 pub mod ScriptSteps
+pub mod Served
 pub mod SetFiles

@@ -1,5 +1,5 @@
 -- The first line of a manifest that is not built yet: docs/FORMATS.md, "What is not built yet".
-use Rattle.std.specs.Prelude.{ℕ, ◌+◌, ◌&&◌, ◌||◌, Bool, true, false, not, List, [], ◌∷◌, ◌++◌, option_to_list, Option, Some, None, Result, Ok, Err, if◌then◌else◌, codes, bytes_eq, nat_lt}
+use Rattle.std.specs.Prelude.{◌≡◌, ℕ, ◌+◌, ◌≤◌, ◌&&◌, ◌||◌, Bool, true, false, not, List, [], ◌∷◌, ◌++◌, All, length, option_to_list, Option, Some, None, Result, Ok, Err, if◌then◌else◌, codes, bytes_eq, nat_lt}
 use Rattle.std.specs.List.{list_any}
 use Rattle.std.specs.Str.{is_utf8}
 use Rattle.mz_base.specs.Lines.{lines_of, fields_of}
@@ -94,3 +94,10 @@ or_unbuilt name (Err fault) (Some line) =
 unfoldable pub manifest_served : Bool → List ℕ → List ℕ → Result Manifest Refusal
 manifest_served in_run name bytes =
     or_unbuilt name (manifest_of (lines_of bytes)) (unbuilt_line in_run (lines_of bytes))
+
+-- what a run serves: one set, at most one user, and at most one client, of that user
+pub record IsServed (manifest : Manifest) : Type 0 where
+  pub one_set : length manifest.sets ≡ 1
+  pub few_users : length manifest.users ≤ 1
+  pub few_clients : length manifest.clients ≤ 1
+  pub of_user : All (λ client. client.user ≡ 1) manifest.clients

@@ -1,4 +1,6 @@
-ghost use Rattle.std.specs.Prelude.{◌≡◌, ◌^◌};
+ghost use Rattle.std.specs.Prelude.{◌≡◌, ◌^◌, ℕ, true, List, Ok};
+ghost use Rattle.scenario.specs.declared.manifest.Manifest.{Manifest};
+ghost use Rattle.world_files.specs.Unbuilt.{IsServed, manifest_served};
 
 use crate::reading::MOST_READ_BYTES;
 use crate::script::{MOST_COMMANDS, MOST_KEYS};
@@ -8,4 +10,9 @@ pub fn limits_are()
     ensures bytes { MOST_READ_BYTES ≡ 2 ^ 30 }
     ensures commands { MOST_COMMANDS ≡ 1000 }
     ensures keys { MOST_KEYS ≡ 4096 }
+{}
+
+/// A manifest that a run serves has one set, at most one user and at most one client, of that user.
+pub fn runs_serve_one_client()
+    ensures { (name bytes : List ℕ) (manifest : Manifest) → manifest_served true name bytes ≡ Ok manifest → IsServed manifest }
 {}

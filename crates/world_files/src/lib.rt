@@ -16,7 +16,7 @@ mod unbuilt;
 mod world;
 
 pub use bounds::Bounds;
-pub use laws::limits_are;
+pub use laws::{limits_are, runs_serve_one_client};
 pub use name::Name;
 pub use query::{Claim, Query, read_claim, read_set};
 pub use reading::{DataFile, Found, MOST_READ_BYTES};
