@@ -9,4 +9,4 @@ mod shown;
 mod tests;
 
 pub use composer::{Composer, InsertError, MOST_SHOWN};
-pub use laws::backspace_takes_one_shown;
+pub use laws::{backspace_takes_one_shown, limits_are};

@@ -6,6 +6,8 @@ ghost use Rattle.mozc_cli.specs.Core.{State, play, run_order, IsComplete};
 ghost use Rattle.world_files.specs.Worlds.{World};
 
 use crate::outputs::MOST_OUTPUT_BYTES;
+use crate::run::FIRST_CLIENT;
+use crate::session::FIRST_JOB;
 
 /// The order of a run is legal: each of its events is. It is complete: the job and each command come, the client ends
 /// and the log closes. And the events that its play notes are the order itself.
@@ -20,7 +22,10 @@ pub fn answers_hold()
         AnswerHolds set key bounds }
 {}
 
-/// The most bytes of an output. The definition cites the constant, so a wrong one would move it along.
+/// The most bytes of an output, and the numbers of the one job and the one client. Definitions cite the constants, so a
+/// wrong one would move them along.
 pub fn limits_are()
     ensures output { MOST_OUTPUT_BYTES ≡ 2 ^ 30 }
+    ensures job { FIRST_JOB ≡ 1 }
+    ensures client { FIRST_CLIENT ≡ 1 }
 {}
