@@ -1,13 +1,13 @@
 -- The targets by rank.
 use Rattle.std.proofs.Common.{◌≡◌, refl, ap, subst, ℕ, ◌+◌, ◌<◌, ◌≤◌, true, false, ltb, ◌⊎◌, inl, inr, List, length, Some, None, arith}
-use Rattle.std.specs.Prelude.{ℤ, slice_index}
+use Rattle.std.specs.Prelude.{ℤ}
 use Rattle.std.proofs.lemmas.Bool.Decides.{nat_tests}
 use Rattle.mz_base.specs.Data.{DataLists}
 use Rattle.mz_base.specs.declared.lattice.Entry.{Entry}
 use Rattle.mz_base.specs.declared.lattice.Span.{Span}
-use Rattle.conversion_meaning.specs.Lattices.{entry}
+use Rattle.conversion_meaning.specs.Lattices.{EndBefore}
 use Rattle.cert_check.specs.declared.edge.Target.{Target}
-use Rattle.cert_check.specs.Edges.{AreMetInto, AreMetTo, BeginsRise, EndBefore, ordinal_at, target_at, target_of}
+use Rattle.cert_check.specs.Edges.{AreMetInto, AreMetTo, BeginsRise, ordinal_at, target_at, target_of}
 
 pub target_at-entry : (es : List Entry) (potentials : List ℤ) (end : Target) (rank : ℕ) → rank < length es → target_at es potentials end rank ≡ target_of es potentials rank
 target_at-entry es potentials end rank inside =
@@ -61,6 +61,6 @@ AreMetTo-next d es span potentials end rank so_far this =
         subst (λ x. AreMetInto d es span potentials (target_at es potentials end x)) same this
 
 -- what ends before a position ends before a later one
-pub EndBefore-later : (es : List Entry) (by_end : List ℕ) (position later cursor : ℕ) → ((k : ℕ) → k < cursor → (entry es (slice_index by_end k)).end < position) → position ≤ later → EndBefore es by_end later cursor
+pub EndBefore-later : (es : List Entry) (by_end : List ℕ) (position later cursor : ℕ) → EndBefore es by_end position cursor → position ≤ later → EndBefore es by_end later cursor
 EndBefore-later es by_end position later cursor before rises =
-    record { each = λ k below. (let h = before k below in omega (arith, h, rises)) }
+    λ k below. (let h = before k below in omega (arith, h, rises))

@@ -1,5 +1,5 @@
 -- The edges of a certificate, target by target: docs/CONVERSION.md, "Verdict".
-use Rattle.std.specs.Prelude.{◌≡◌, ℕ, ◌+◌, ◌<◌, ◌≤◌, ℤ, pos, ◌+ℤ◌, ◌≤ℤ◌, ◌<ℤ◌, List, Contains, length, nat_lt, if◌then◌else◌, slice_index, slice_index_or, Option, Some, None}
+use Rattle.std.specs.Prelude.{◌≡◌, ℕ, ◌+◌, ◌<◌, ◌≤◌, ℤ, pos, ◌+ℤ◌, ◌≤ℤ◌, ◌<ℤ◌, List, Contains, length, nat_lt, if◌then◌else◌, slice_index_or, Option, Some, None}
 use Rattle.mz_base.specs.Data.{DataLists, connection}
 use Rattle.mz_base.specs.declared.lattice.Entry.{Entry}
 use Rattle.mz_base.specs.declared.lattice.Span.{Span}
@@ -104,10 +104,6 @@ pub record IsFirstEdge (d : DataLists) (es : List Entry) (span : Span) (potentia
 abbrev pub FirstEdge : DataLists → List Entry → Span → List ℤ → Target → Option Edge → Type 0
 FirstEdge d es span potentials end None = AreMetTo d es span potentials end (length es + 1)
 FirstEdge d es span potentials end (Some edge) = IsFirstEdge d es span potentials end edge
-
--- the entries before a place in the order of ends end before this position
-pub record EndBefore (es : List Entry) (by_end : List ℕ) (position cursor : ℕ) : Type 0 where
-  pub each : (k : ℕ) → k < cursor → (entry es (slice_index by_end k)).end < position
 
 -- entries begin in order, none past this position
 pub record BeginsRise (es : List Entry) (last : ℕ) : Type 0 where

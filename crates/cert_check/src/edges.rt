@@ -4,8 +4,8 @@ ghost use Rattle.cert_check.specs.Claims.{AreReady};
 ghost use Rattle.cert_check.specs.Edges.{AreOrdinals, FirstEdge, FirstInto, FirstSource, ordinal_at};
 ghost use Rattle.cert_check.specs.Walks.{AreSound};
 
-use crate::cursor::advance;
 use crate::edge::{Edge, Target, is_met, meets_start, nth_source, nth_target};
+use lattice::first_from;
 use mz_base::{DataSet, Entry, Span};
 
 /// The first edge that is not met, by target and then by source. Each pair that touches is looked at once.
@@ -24,7 +24,7 @@ pub fn unmet_edge<D: DataSet>(
     let mut cursor = 0;
     for rank in 0..entries.len() + 1 {
         let target = nth_target(entries, potentials, end, rank);
-        cursor = advance(entries, by_end, cursor, target.begin);
+        cursor = first_from(entries, by_end, cursor, target.begin);
         if let Some(from) = unmet_into(set, entries, by_end, potentials, span, cursor, &target) {
             let to = nth_ordinal(by_end, rank);
             return Some(Edge { from, to });

@@ -3,7 +3,6 @@
 //! and specs/Verdicts.antt.
 #![tactic(auto)]
 
-mod cursor;
 mod edge;
 mod edges;
 mod verdict;

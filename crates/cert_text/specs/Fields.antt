@@ -3,7 +3,8 @@ use Rattle.std.specs.Prelude.{ℕ, ◌<◌, ◌≤◌, ℤ, Bool, true, All, ◌
 use Rattle.std.specs.List.{slice_split}
 use Rattle.std.specs.List.Sorted.{IsStrictlyIncreasing}
 use Rattle.mz_base.specs.Numbers.{number_of, signed_of}
-use Rattle.cert_text.specs.declared.field.TheConstants.{MOST_ORDINAL, MOST_SIGNED_DIGITS}
+use Rattle.cert_text.specs.declared.field.TheConstants.{MOST_ORDINAL}
+use Rattle.mz_base.specs.declared.numbers.TheConstants.{MOST_SIGNED_DIGITS}
 
 -- the fields after this word, where a line begins with it
 abbrev pub after_word : List ℕ → List (List ℕ) → Option (List (List ℕ))

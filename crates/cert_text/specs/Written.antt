@@ -2,7 +2,8 @@
 use Rattle.std.specs.Prelude.{ℕ, ◌+◌, ◌^◌, ◌<◌, ◌≤◌, ℤ, pos, negsuc, All}
 use Rattle.mz_base.specs.declared.lattice.Certificate.{Certificate}
 use Rattle.cert_text.specs.Fields.{RiseWithin}
-use Rattle.cert_text.specs.declared.field.TheConstants.{MOST_ORDINAL, MOST_SIGNED_DIGITS}
+use Rattle.cert_text.specs.declared.field.TheConstants.{MOST_ORDINAL}
+use Rattle.mz_base.specs.declared.numbers.TheConstants.{MOST_SIGNED_DIGITS}
 
 -- a number of few enough digits
 abbrev pub IsShort : ℤ → Type 0

@@ -4,14 +4,11 @@ ghost use Rattle.mz_base.specs.Lines.{pointed};
 ghost use Rattle.mz_base.specs.Numbers.{number_of};
 ghost use Rattle.cert_text.specs.Fields.{values_of, ordinal_of, potential_of};
 
-use mz_base::{NoMemory, number, signed};
+use mz_base::{MOST_SIGNED_DIGITS, NoMemory, number, signed};
 use std::alloc::Global;
 
 /// The highest ordinal that is read.
 pub const MOST_ORDINAL: u64 = 4_294_967_295;
-
-/// The most digits of a potential and of a total.
-pub const MOST_SIGNED_DIGITS: usize = 18;
 
 /// A value that a field spells.
 pub trait FromField: Drop {

@@ -6,7 +6,7 @@ ghost use Rattle.cert_text.specs.Readings.{certificate_of};
 ghost use Rattle.cert_text.specs.Texts.{certificate_text};
 ghost use Rattle.cert_text.specs.Written.{CanBeWritten};
 
-use crate::field::{MOST_ORDINAL, MOST_SIGNED_DIGITS};
+use crate::field::MOST_ORDINAL;
 
 /// What is written of a certificate reads as that certificate.
 pub fn written_certificates_read()
@@ -14,8 +14,7 @@ pub fn written_certificates_read()
         certificate_of key_length (lines_of (certificate_text certificate)) ≡ Ok certificate }
 {}
 
-/// The numbers that a field may have. Definitions cite the constants, so a wrong one would move them along.
+/// The highest ordinal. The definition cites the constant, so a wrong one would move it along.
 pub fn limits_are()
     ensures ordinal { MOST_ORDINAL ≡ 2 ^ 32 - 1 }
-    ensures digits { MOST_SIGNED_DIGITS ≡ 18 }
 {}

@@ -1,4 +1,4 @@
-//! The text of certificates: written by [`print`], read by [`read`]. The bounds of a command line: [`read_bounds`].
+//! The text of certificates: written by [`print`] and [`print_after`], read by [`read`]. The bounds of a command line: [`read_bounds`].
 //! What the text is: specs/Texts.antt; what it reads as: specs/Readings.antt, and specs/Fields.antt for its fields.
 //! That the one undoes the other: [`written_certificates_read`].
 #![tactic(auto)]
@@ -8,12 +8,10 @@ mod error;
 mod field;
 mod laws;
 mod reader;
-#[cfg(test)]
-mod tests;
 mod writer;
 
 pub use bounds::read_bounds;
 pub use error::TextError;
 pub use laws::{limits_are, written_certificates_read};
 pub use reader::read;
-pub use writer::print;
+pub use writer::{print, print_after};

@@ -1,4 +1,4 @@
-ghost use Rattle.std.specs.Prelude.{◌≡◌, ◌+◌, ◌<◌, ◌≤◌, ◌^◌, All, IfOk, codes, option_map, option_and_then, slice_get};
+ghost use Rattle.std.specs.Prelude.{◌≡◌, ◌+◌, ◌<◌, ◌≤◌, IfOk, codes, option_map, option_and_then, slice_get};
 ghost use Rattle.std.specs.Option.{option_copied};
 ghost use Rattle.mz_base.specs.Lines.{lines_of, pointed, text_line};
 ghost use Rattle.mz_base.specs.declared.lattice.TheConstants.{MOST_KEY};
@@ -9,7 +9,7 @@ ghost use Rattle.cert_text.specs.Readings.{fields_at, line_at, certificate_of};
 use crate::TextError;
 use crate::bounds::bounds_of;
 use crate::field::{FromField, values_of};
-use mz_base::{Certificate, NoMemory, Seq, cut_fields, cut_lines, text_of_line};
+use mz_base::{Certificate, NoMemory, Seq, cut_fields, cut_lines, narrowed, text_of_line};
 use std::alloc::Global;
 
 /// The certificate in a file, for a key of so many characters. Further lines are ignored.
@@ -48,14 +48,6 @@ fn bounds_line(alloc: Global, lines: &[&[u8]], key_length: usize) -> Result<Vec<
         return Err(TextError::Line(1));
     };
     Ok(narrowed(alloc, bounds.as_slice())?)
-}
-
-/// The same numbers in fewer bits.
-fn narrowed(alloc: Global, bounds: &[u64]) -> Result<Vec<u16>, NoMemory>
-    requires { All (λ bound. bound < 2 ^ 16) bounds.now }
-    ensures { IfOk result (λ narrow. narrow.items ≡ bounds.now) }
-{
-    Ok(bounds.iter().map(|bound| *bound as u16).collect(alloc)?)
 }
 
 fn values_line<T: FromField>(

@@ -11,11 +11,19 @@ pub fn print(alloc: Global, certificate: &Certificate) -> Result<String, NoMemor
     ensures { IfOk result (λ text. string_bytes text ≡ certificate_text certificate.now) }
 {
     let mut text = String::new(alloc);
-    print_bounds(&mut text, certificate.bounds.as_slice())?;
-    print_path(&mut text, certificate.path.as_slice())?;
-    print_potentials(&mut text, certificate.potentials.as_slice())?;
-    write!(text, "total\t{}\n", certificate.total)?;
+    print_after(&mut text, certificate)?;
     Ok(text)
+}
+
+/// The four lines of a certificate, after what is there. Where memory runs out a part of them may stand there.
+pub fn print_after(out: &mut String, certificate: &Certificate) -> Result<(), NoMemory>
+    ensures { OnOk result (string_bytes out.new ≡ string_bytes out.old ++ certificate_text certificate.now) }
+{
+    print_bounds(out, certificate.bounds.as_slice())?;
+    print_path(out, certificate.path.as_slice())?;
+    print_potentials(out, certificate.potentials.as_slice())?;
+    write!(out, "total\t{}\n", certificate.total)?;
+    Ok(())
 }
 
 fn print_bounds(out: &mut String, bounds: &[u16]) -> Result<(), NoMemory>

@@ -1,2 +1,3 @@
 mod Backspaces
 mod KanaSteps
+mod Moves

@@ -5,8 +5,9 @@
 mod composer;
 mod laws;
 mod shown;
-#[cfg(test)]
-mod tests;
 
-pub use composer::{Composer, InsertError, MOST_SHOWN};
-pub use laws::{backspace_takes_one_shown, limits_are};
+pub use composer::{Composer, InsertError, MOST_SHOWN, Seen};
+pub use laws::{
+    backspace_takes_one_shown, delete_takes_one_of_the_reading, limits_are, moves_leave_no_run,
+    moves_show_the_reading, right_undoes_left,
+};

@@ -12,6 +12,3 @@ mod reader;
 pub use laws::{costs_stand_on_their_lines, tables_are_sound};
 pub use limits::{MOST_BYTES, limits_are};
 pub use matrix::Matrix;
-
-#[cfg(test)]
-mod tests;

@@ -11,6 +11,8 @@ use Rattle.mz_base.specs.declared.data.WordRow.{WordRow}
 use Rattle.mz_base.specs.declared.lattice.Entry.{Entry}
 use Rattle.mz_base.specs.declared.user.UserRow.{UserRow}
 use Rattle.mz_base.specs.declared.user.TheConstants.{MOST_USER_ROWS}
+use Rattle.mz_base.specs.declared.data.TheConstants.{MOST_WORDS}
+use Rattle.mz_base.specs.declared.lattice.TheConstants.{MOST_KEY}
 use Rattle.mz_base.specs.declared.lattice.Source.TheVariants.{Char, Run}
 use Rattle.conversion_meaning.specs.Bounds.{most_entries}
 use Rattle.conversion_meaning.specs.Entries.{node, is_cut, is_run, user_entry, word_entry, user_entries, word_entries, char_entries, run_entries, entries_in, entries_from, entries}
@@ -158,7 +160,7 @@ module _ (d : DataLists) (rows : List UserRow) (key bounds : List ℕ) where
           let y = length-cond (is_run key begin end) (node d key Run begin end) in
           omega (arith, a, b, c, u, w, x, y)
 
-  length-entries_from : (begin : ℕ) → begin ≤ length key → length key ≤ 256 → length rows ≤ 100000 → length d.words ≤ 2000000 → length (entries_from d rows key bounds begin) ≤ 2100512
+  length-entries_from : (begin : ℕ) → begin ≤ length key → length key ≤ MOST_KEY → length rows ≤ MOST_USER_ROWS → length d.words ≤ MOST_WORDS → length (entries_from d rows key bounds begin) ≤ MOST_WORDS + (MOST_USER_ROWS + 2 * MOST_KEY)
   unfolding entries_from
   length-entries_from begin inside few_characters few_users few_words =
       let ends = range_with_len (begin + 1) (length key - begin) in
@@ -174,12 +176,12 @@ module _ (d : DataLists) (rows : List UserRow) (key bounds : List ℕ) where
       let n = length-range_with_len (begin + 1) (length key - begin) in
       omega (arith, a, b, c, e, u, w, lu, lw, k, n)
 
-  pub length-entries : length key ≤ 256 → length rows ≤ 100000 → length d.words ≤ 2000000 → length (entries d rows key bounds) ≤ 256 * 2100512
+  pub length-entries : length key ≤ MOST_KEY → length rows ≤ MOST_USER_ROWS → length d.words ≤ MOST_WORDS → length (entries d rows key bounds) ≤ most_entries
   unfolding entries
   length-entries few_characters few_users few_words =
       let begins = range_with_len 0 (length key) in
       let a = length-flat_map (entries_from d rows key bounds) begins in
-      let b = total-bound (λ begin. length (entries_from d rows key bounds begin)) 2100512 begins (λ begin h. length-entries_from begin (inside begin h) few_characters few_users few_words) in
+      let b = total-bound (λ begin. length (entries_from d rows key bounds begin)) (MOST_WORDS + (MOST_USER_ROWS + 2 * MOST_KEY)) begins (λ begin h. length-entries_from begin (inside begin h) few_characters few_users few_words) in
       let n = length-range_with_len 0 (length key) in
       omega (arith, a, b, n)
     where

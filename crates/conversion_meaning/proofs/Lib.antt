@@ -18,3 +18,4 @@ pub mod RangeLemmas
 pub mod InOrderLemmas
 pub mod AnswerLemmas
 pub mod CandidateLemmas
+pub mod SomeLattice

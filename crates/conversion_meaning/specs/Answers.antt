@@ -1,5 +1,5 @@
 -- Least costs as a function, and the answer of a conversion: docs/CONVERSION.md, "Certificates" and "Answers".
-use Rattle.std.specs.Prelude.{ℕ, ℤ, List, length, map}
+use Rattle.std.specs.Prelude.{ℕ, ℤ, List, map}
 use Rattle.mz_base.specs.Data.{DataLists}
 use Rattle.mz_base.specs.declared.lattice.Certificate.{Certificate}
 use Rattle.mz_base.specs.declared.lattice.Entry.{Entry}
@@ -7,7 +7,7 @@ use Rattle.mz_base.specs.declared.lattice.Span.{Span}
 use Rattle.mz_base.specs.declared.user.UserRow.{UserRow}
 use Rattle.conversion_meaning.specs.Entries.{entries}
 use Rattle.conversion_meaning.specs.InOrder.{best_path}
-use Rattle.conversion_meaning.specs.Paths.{path_cost}
+use Rattle.conversion_meaning.specs.Paths.{path_cost, whole_key}
 use Rattle.conversion_meaning.specs.Potentials.{cost_to, ordinals_in}
 use Rattle.conversion_meaning.specs.Steps.{span_before}
 
@@ -19,16 +19,12 @@ least_cost d es span o = cost_to d es span (best_path d es (span_before es span 
 unfoldable pub least_costs : DataLists → List Entry → Span → List ℤ
 least_costs d es span = map (least_cost d es span) (ordinals_in es span)
 
--- the whole of a key, with the id 0 on both sides
-abbrev pub whole_key : List ℕ → Span
-whole_key key = record { begin = 0; end = length key; left = 0; right = 0 }
-
 -- the certificate of a span: its best path, the least costs and the path's cost
 abbrev pub certificate_over : DataLists → List Entry → Span → List ℕ → Certificate
 certificate_over d es span bounds =
     let path = best_path d es span in
     record { bounds = bounds; path = path; potentials = least_costs d es span; total = path_cost d es span path }
 
--- The answer to a key with its bounds, by a data set and a user's rows.
+-- The answer to a key with its bounds and the id 0 on both sides, by a data set and a user's rows.
 unfoldable pub answer : DataLists → List UserRow → List ℕ → List ℕ → Certificate
-answer d rows key bounds = certificate_over d (entries d rows key bounds) (whole_key key) bounds
+answer d rows key bounds = certificate_over d (entries d rows key bounds) (whole_key key 0) bounds

@@ -73,8 +73,12 @@ pub record IsLatticeOf (d : DataLists) (rows : List UserRow) (l : Lattice) : Typ
   pub entries_are : l.entries ≡ entries d rows l.key l.bounds
   pub by_end : IsByEnd l.entries l.by_end
 
+-- the entries before a place in the order of ends end before this position
+abbrev pub EndBefore : List Entry → List ℕ → ℕ → ℕ → Type 0
+EndBefore es by_end position cursor = (k : ℕ) → k < cursor → (entry es (slice_index by_end k)).end < position
+
 -- the place in the order of ends before which entries end before this position, and from which on they do not
 pub record IsCursor (es : List Entry) (by_end : List ℕ) (position cursor : ℕ) : Type 0 where
   pub within : cursor ≤ length by_end
-  pub before : (k : ℕ) → k < cursor → (entry es (slice_index by_end k)).end < position
+  pub before : EndBefore es by_end position cursor
   pub after : (k : ℕ) → cursor ≤ k → k < length by_end → position ≤ (entry es (slice_index by_end k)).end

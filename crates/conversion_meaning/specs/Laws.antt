@@ -13,7 +13,7 @@ use Rattle.conversion_meaning.specs.Best.{IsBest}
 use Rattle.conversion_meaning.specs.Bounds.{IsWithin, most_entries, most_path, most_step}
 use Rattle.conversion_meaning.specs.Certificates.{Claim, IsCertificate}
 use Rattle.conversion_meaning.specs.Entries.{entries}
-use Rattle.conversion_meaning.specs.Lattices.{entry, IsKey, IsByEnd, IsCursor, IsLatticeOf, IsWellFormed}
+use Rattle.conversion_meaning.specs.Lattices.{entry, AreBounds, IsKey, IsByEnd, IsCursor, IsLatticeOf, IsWellFormed}
 use Rattle.conversion_meaning.specs.Order.{IsBefore}
 use Rattle.conversion_meaning.specs.Paths.{IsPathOver, IsSpan, path_cost, whole}
 use Rattle.conversion_meaning.specs.Potentials.{IsLeastCost, AreLeastCosts, cost_to, ordinals_in}
@@ -26,6 +26,11 @@ use Rattle.conversion_meaning.specs.Verdicts.{IsFault}
 abbrev pub EntriesAreWellFormed : Type 0
 EntriesAreWellFormed =
     (d : DataLists) (rows : List UserRow) (l : Lattice) → AreDataSound d → IsLatticeOf d rows l → IsWellFormed d l
+
+-- a key with its bounds has a lattice
+abbrev pub KeysHaveLattices : Type 0
+KeysHaveLattices =
+    (d : DataLists) (rows : List UserRow) (key bounds : List ℕ) → IsKey key → AreBounds key bounds → (l : Lattice) × IsLatticeOf d rows l × (l.key ≡ key) × (l.bounds ≡ bounds)
 
 -- ordinals are small
 abbrev pub EntriesAreFew : Type 0

@@ -24,9 +24,12 @@ pub record IsSpan (d : DataLists) (l : Lattice) (span : Span) : Type 0 where
   pub left : span.left < d.ids
   pub right : span.right < d.ids
 
--- the whole key, after this id
+-- the whole of a key, after this id and before the id 0
+abbrev pub whole_key : List ℕ → ℕ → Span
+whole_key key left = record { begin = 0; end = length key; left = left; right = 0 }
+
 abbrev pub whole : Lattice → ℕ → Span
-whole l left = record { begin = 0; end = length l.key; left = left; right = 0 }
+whole l left = whole_key l.key left
 
 -- a path over a span
 abbrev pub IsPathOver : List Entry → Span → List ℕ → Type 0

@@ -19,11 +19,13 @@ pub use all_paths::{all_paths_are_listed, all_paths_are_once, listed_are_all_pat
 pub use answers::{answer_is_answer, answer_is_one, least_costs_are_least, least_costs_are_one};
 pub use best::{best_gives_least_cost, best_goes_on, best_is_one, nothing_is_best, one_is_best};
 pub use bounds::{entries_are_few, least_costs_are_small, path_costs_are_small};
-pub use candidates::{MOST_PATHS, MOST_VALUES, value_costs_rise, values_are_few, values_are_once};
+pub use candidates::{
+    MOST_PATHS, MOST_VALUES, limits_are, value_costs_rise, values_are_few, values_are_once,
+};
 pub use certificates::{
     certificates_have_no_fault, fault_is_one, least_costs_certify, none_costs_less,
 };
-pub use entries::entries_are_well_formed;
+pub use entries::{entries_are_well_formed, keys_have_lattices};
 pub use examples::{
     digits, kyouha, kyouha_cut, kyouha_cut_answer, kyouha_faults, kyouha_values, mo, mo_in_order,
 };

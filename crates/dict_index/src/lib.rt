@@ -9,8 +9,6 @@ mod look_up;
 mod order;
 mod packed;
 mod sorted;
-#[cfg(test)]
-mod tests;
 mod word_index;
 
 pub use sorted::SortedIndex;

@@ -10,6 +10,3 @@ mod tally;
 
 pub use laws::rows_are_words;
 pub use reader::read;
-
-#[cfg(test)]
-mod tests;

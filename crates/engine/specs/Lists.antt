@@ -1,7 +1,7 @@
 -- What an engine means.
 use Rattle.mz_base.specs.Data.{DataLists}
 use Rattle.engine.specs.Tables.{data_in}
-use Rattle.engine.specs.declared.set.Engine.{Engine}
+use Rattle.engine.specs.declared.data.Engine.{Engine}
 
 -- the data set that an engine is
 abbrev pub lists_of : Engine → DataLists

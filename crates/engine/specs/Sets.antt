@@ -1,8 +1,9 @@
 -- The data that the files of a set give, or their first fault: docs/FORMATS.md, "Data files".
-use Rattle.std.specs.Prelude.{ℕ, ◌+◌, ◌==◌, pos, Bool, List, [], ◌∷◌, Option, Some, None, Result, Ok, Err, filter, find}
+use Rattle.std.specs.Prelude.{ℕ, ◌+◌, pos, Bool, List, [], ◌∷◌, Option, Some, None, Result, Ok, Err, filter, find}
 use Rattle.std.specs.Option.{option_map}
 use Rattle.mz_base.specs.Answers.{◌>>=◌}
 use Rattle.mz_base.specs.Data.{DataLists}
+use Rattle.mz_base.specs.Faults.{same_role}
 use Rattle.mz_base.specs.Lines.{lines_of}
 use Rattle.mz_base.specs.declared.data.IdRow.{IdRow}
 use Rattle.mz_base.specs.declared.data.JoinRow.{JoinRow}
@@ -25,20 +26,8 @@ use Rattle.pos_table.specs.Values.{value_rows}
 use Rattle.romaji_table.specs.Rows.{romaji_rows}
 use Rattle.engine.specs.declared.files.SetFile.{SetFile}
 
--- the place of a role in the order in which faults are looked for
-abbrev pub role_place : Role → ℕ
-role_place Connection = 0
-role_place Id = 1
-role_place Unk = 2
-role_place Segment = 3
-role_place UserPos = 4
-role_place Romaji = 5
-role_place Dictionary = 6
-role_place Symbol = 7
-role_place Kanji = 8
-
 abbrev pub has_role : Role → SetFile → Bool
-has_role role file = role_place file.role == role_place role
+has_role role file = same_role file.role role
 
 -- the files of a role, in the order of the manifest
 abbrev pub files_of : Role → List SetFile → List SetFile

@@ -1,8 +1,8 @@
 ghost use Rattle.std.specs.Prelude.{◌≡◌, find};
 ghost use Rattle.std.specs.Option.{option_copied};
-ghost use Rattle.engine.specs.Sets.{bytes_of, has_role, role_place};
+ghost use Rattle.engine.specs.Sets.{bytes_of, has_role};
 
-use mz_base::{Role, Seq, Text};
+use mz_base::{Role, Seq, Text, same_role};
 
 /// A file of a data set.
 #[derive(Drop)]
@@ -38,22 +38,5 @@ fn first_of(files: &[SetFile], role: Role) -> Option<&SetFile>
 pub fn has_role(file: &SetFile, role: Role) -> bool
     ensures { result ≡ has_role role file.now }
 {
-    place_of(file.role) == place_of(role)
-}
-
-/// The place of a role in the order in which faults are looked for.
-fn place_of(role: Role) -> u8
-    ensures { result ≡ role_place role }
-{
-    match role {
-        Role::Connection => 0,
-        Role::Id => 1,
-        Role::Unk => 2,
-        Role::Segment => 3,
-        Role::UserPos => 4,
-        Role::Romaji => 5,
-        Role::Dictionary => 6,
-        Role::Symbol => 7,
-        Role::Kanji => 8,
-    }
+    same_role(file.role, role)
 }

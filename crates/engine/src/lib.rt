@@ -3,16 +3,14 @@
 //! `mz_base`, specs/Data.antt.
 #![tactic(auto)]
 
+mod building;
+mod data;
 mod error;
 mod files;
-mod made;
-mod set;
 mod tables;
-#[cfg(test)]
-mod tests;
 mod words;
 
+pub use building::build;
+pub use data::Engine;
 pub use error::BuildError;
 pub use files::{SetFile, SetFiles, has_role};
-pub use made::build;
-pub use set::Engine;

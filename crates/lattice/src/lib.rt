@@ -1,13 +1,15 @@
 //! The lattice of a key: all entries of its parts, and their order by end. Start at [`build`]; [`value_of`] reads an
-//! entry. What an entry and a well-formed lattice are: `conversion_meaning`, specs/Entries.antt and Lattices.antt.
+//! entry, [`first_from`] walks the order of ends. What an entry and a well-formed lattice are: `conversion_meaning`, specs/Entries.antt and Lattices.antt.
 #![tactic(auto)]
 
 mod by_end;
+mod cursor;
 mod entries;
 mod made;
 mod run;
 mod sources;
 mod value;
 
+pub use cursor::first_from;
 pub use made::build;
 pub use value::value_of;

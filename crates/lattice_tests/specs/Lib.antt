@@ -1,1 +1,2 @@
 pub mod ExampleUser
+pub mod Spans

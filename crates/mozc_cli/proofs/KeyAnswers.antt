@@ -9,7 +9,7 @@ use Rattle.conversion_meaning.specs.Lattices.{IsLatticeOf}
 use Rattle.conversion_meaning.proofs.AnswerLemmas.{answer-one}
 use Rattle.cert_text.specs.Texts.{certificate_text}
 use Rattle.world_files.specs.Reading.{Tells}
-use Rattle.world_files.specs.declared.refusal.Refusal.{Refusal}
+use Rattle.mz_base.specs.declared.status.Refusal.{Refusal}
 use Rattle.mozc_cli.specs.Reported.{shown}
 use Rattle.mozc_cli.specs.Settles.{answered, limited, list_output}
 use Rattle.mozc_cli.specs.declared.outputs.Output.{Output}

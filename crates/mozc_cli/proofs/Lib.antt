@@ -1,5 +1,4 @@
-pub mod AnswersHold
 pub mod KeyAnswers
 pub mod Runs
 pub mod Settling
-pub mod SomeLattice
+pub mod NamedRuns

@@ -1,16 +1,16 @@
 -- The order of a run is legal and complete, and its play gives the lines and the events that each command gives in turn.
-use Rattle.std.proofs.Common.{◌≡◌, ℕ, Bool, true, false, List, [], ◌∷◌, ◌++◌, Option, Some, None, unwrap_or, refl, ap, ◌∙◌, append_assoc, append-nil}
+use Rattle.std.proofs.Common.{◌≡◌, ℕ, Bool, true, false, List, [], ◌∷◌, ◌++◌, Option, Some, None, unwrap_or, refl, sym, ap, ◌∙◌, append_assoc, append-nil}
 use Rattle.mz_base.specs.Data.{DataLists}
 use Rattle.mz_base.specs.declared.event.Event.{Event}
 use Rattle.mz_base.specs.declared.event.Event.TheVariants as event
 use Rattle.mz_base.specs.declared.event.Outcome.TheVariants as outcome
 use Rattle.mz_base.specs.declared.report.Line.{Line}
 use Rattle.mz_base.specs.declared.romaji.Rule.{Rule}
-use Rattle.mozc_cli.specs.Core.{State, start, play_from, play, take_for, client_events, client_lines, commands_of, run_order}
+use Rattle.mozc_cli.specs.Core.{State, start, play_from, play, take_for, client_events, client_lines, commands_of, logs_of, run_logs, run_order}
 use Rattle.mozc_cli.specs.Sessions.{opening, needs_take, step}
-use Rattle.mozc_cli.specs.Settles.{has_differs, run_state, run_output}
-use Rattle.mozc_cli.specs.Texts.{client_name, sections}
-use Rattle.world_files.specs.declared.script.Command.{Command}
+use Rattle.mozc_cli.specs.Settles.{output_of, run_state, run_output}
+use Rattle.mz_base.specs.declared.logs.Logs.{Logs}
+use Rattle.keys.specs.declared.command.Command.{Command}
 use Rattle.mozc_cli.specs.declared.session.Session.{Session}
 use Rattle.mozc_cli.specs.declared.session.TheConstants.{FIRST_JOB}
 use Rattle.mozc_cli.specs.declared.run.TheConstants.{FIRST_CLIENT}
@@ -56,9 +56,9 @@ play-order user (Some plan) set =
 pub play-run_order : (world : World) → play world (run_order world) ≡ Some (final world)
 play-run_order world = play-order world.user world.client world.set
 
--- a report of those lines and events is the run's output
-pub run_output-is : (world : World) (text : List ℕ) (lines : List Line) (events : List Event) (unmet : Bool) → lines ≡ client_lines world.set.rules opening (commands_of world.client) → events ≡ run_order world → text ≡ sections world.user (client_name world.client) true true lines events → unmet ≡ has_differs (client_lines world.set.rules opening (commands_of world.client)) → record { text = text; unmet = unmet } ≡ run_output world
+-- the report of a complete run's logs is the run's output
+pub run_output-is : (world : World) (logs : Logs) → logs ≡ run_logs world.set.rules world.user world.client → output_of logs ≡ run_output world
 unfolding run_state final
-run_output-is world text lines events unmet lines_are events_are text_is unmet_is =
+run_output-is world logs logs_are =
     let played : run_state world ≡ final world = ap (λ state. unwrap_or state (start world)) (play-run_order world) in
-    rw (text_is, unmet_is, lines_are, events_are, played) refl
+    ap output_of (logs_are ∙ sym (ap (logs_of world) played))

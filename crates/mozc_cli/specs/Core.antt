@@ -1,15 +1,24 @@
 -- Events, when each is legal, and the order of a run: docs/FORMATS.md, "Events".
-use Rattle.std.specs.Prelude.{◌≡◌, ◌==◌, ◌&&◌, Bool, true, false, not, List, [], ◌∷◌, ◌++◌, Option, Some, None, is_none, option_and_then, if◌then◌else◌, IsTrue}
+use Rattle.std.specs.Prelude.{◌≡◌, ℕ, ◌==◌, ◌&&◌, Bool, true, false, not, List, [], ◌∷◌, ◌++◌, Option, Some, None, is_none, option_and_then, if◌then◌else◌, IsTrue}
 use Rattle.mz_base.specs.declared.event.Event.{Event}
 use Rattle.mz_base.specs.declared.event.Event.TheVariants as event
 use Rattle.mz_base.specs.declared.event.Outcome.TheVariants as outcome
+use Rattle.std.specs.List.{filter_map}
+use Rattle.mz_base.specs.declared.logs.ClientLog.{ClientLog}
+use Rattle.mz_base.specs.declared.logs.JobEntry.{JobEntry}
+use Rattle.mz_base.specs.declared.logs.JobEntry.TheVariants as job
+use Rattle.mz_base.specs.declared.logs.Logs.{Logs}
+use Rattle.mz_base.specs.declared.logs.Own.{Own}
+use Rattle.mz_base.specs.declared.logs.UserEntry.{UserEntry}
+use Rattle.mz_base.specs.declared.logs.UserEntry.TheVariants as entry
+use Rattle.mz_base.specs.declared.logs.UserLog.{UserLog}
 use Rattle.mz_base.specs.declared.report.Line.{Line}
 use Rattle.mz_base.specs.declared.romaji.Rule.{Rule}
 use Rattle.mozc_cli.specs.Sessions.{opening, needs_take, step}
-use Rattle.world_files.specs.declared.script.Command.{Command}
+use Rattle.keys.specs.declared.command.Command.{Command}
 use Rattle.mozc_cli.specs.declared.session.Session.{Session}
 use Rattle.mozc_cli.specs.declared.session.TheConstants.{FIRST_JOB}
-use Rattle.mozc_cli.specs.declared.run.TheConstants.{FIRST_CLIENT}
+use Rattle.mozc_cli.specs.declared.run.TheConstants.{FIRST_CLIENT, FIRST_USER}
 use Rattle.world_files.specs.declared.world.Plan.{Plan}
 use Rattle.world_files.specs.Worlds.{World}
 
@@ -64,8 +73,8 @@ is_empty (command ∷ rest) = false
 -- The state after an event, where it is legal. The job comes first. A client's take comes once where its next command
 -- needs it, and before its step; its end comes when no command is left; the log closes once.
 abbrev pub apply : List Rule → State → Event → Option State
-apply rules state (event.Job job outcome.Published) =
-    provided (job == FIRST_JOB && not state.published) (noted (event.Job job outcome.Published) (record state { published = true }))
+apply rules state (event.Job number outcome.Published) =
+    provided (number == FIRST_JOB && not state.published) (noted (event.Job number outcome.Published) (record state { published = true }))
 apply rules state (event.Job job outcome.Refused) = None
 apply rules state (event.Job job outcome.Skipped) = None
 apply rules state (event.Dict user reload) = None
@@ -121,3 +130,45 @@ after_job rules (Some plan) = client_events rules opening plan.commands ++ (even
 -- the order of a run: the job comes first
 abbrev pub run_order : World → List Event
 run_order world = event.Job FIRST_JOB outcome.Published ∷ after_job world.set.rules world.client
+
+-- the client's own event; it has seen nothing of its user's journal
+abbrev pub own : Event → Option Own
+own (event.Job job outcome) = None
+own (event.Dict user reload) = None
+own event.Close = None
+own other = Some (record { event = other; prefix = 0 })
+
+-- what the client did, where there is one
+abbrev pub client_logs : Option Plan → List Line → List Event → List ClientLog
+client_logs None lines events = []
+client_logs (Some plan) lines events =
+    record { name = plan.name; user = FIRST_USER; lines = lines; own = filter_map own events } ∷ []
+
+-- the job, once it is published
+abbrev pub job_log : Bool → List JobEntry
+job_log published = if published then job.Published FIRST_JOB ∷ [] else []
+
+-- the end of the client, which has learned nothing
+abbrev pub journal : Option Plan → Bool → List UserEntry
+journal None ended = []
+journal (Some plan) ended = if ended then entry.End FIRST_CLIENT 0 ∷ [] else []
+
+-- the journal of the user, where there is one
+abbrev pub user_logs : Option (List ℕ) → List UserEntry → List UserLog
+user_logs None entries = []
+user_logs (Some name) entries = record { name = name; dicts = []; entries = entries } ∷ []
+
+-- the logs of a run of this user and this client
+abbrev pub logs_with : Option (List ℕ) → Option Plan → Bool → Bool → Bool → List Line → List Event → Logs
+logs_with user client published closed ended lines events =
+    record { clients = client_logs client lines events; jobs = job_log published; closed = closed; users = user_logs user (journal client ended); events = events; certificates = None }
+
+-- the logs of a state
+abbrev pub logs_of : World → State → Logs
+logs_of world state =
+    logs_with world.user world.client state.published state.closed state.ended state.lines state.events
+
+-- the logs of a complete run: the order of the run, and each command's line
+abbrev pub run_logs : List Rule → Option (List ℕ) → Option Plan → Logs
+run_logs rules user client =
+    logs_with user client true true true (client_lines rules opening (commands_of client)) (event.Job FIRST_JOB outcome.Published ∷ after_job rules client)

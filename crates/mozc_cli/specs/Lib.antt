@@ -1,9 +1,6 @@
 pub mod Args
-pub mod Conversions
 pub mod Core
-pub mod Printed
 pub mod Programs
 pub mod Reported
 pub mod Sessions
 pub mod Settles
-pub mod Texts

@@ -1,17 +1,16 @@
 -- What the parts of the top call answer, against what the files mean.
 use Rattle.std.specs.Prelude.{◌≡◌, ℕ, true, false, List, Option, Result, Ok, Err}
-use Rattle.std.specs.String.{string_bytes}
 use Rattle.mz_base.specs.declared.status.Status.{Status}
 use Rattle.mz_base.specs.declared.status.Status.TheVariants as status
 use Rattle.mz_outside.specs.Taken.{with_more, AddsFront}
 use Rattle.world_files.specs.Reading.{UnlessFree}
-use Rattle.world_files.specs.declared.refusal.Refusal.{Refusal}
+use Rattle.mz_base.specs.declared.status.Refusal.{Refusal}
 use Rattle.mozc_cli.specs.Settles.{Output as Meant}
 use Rattle.mozc_cli.specs.declared.outputs.Output.{Output}
 
 -- an output of the code, as what it writes
 abbrev pub shown : Output → Meant
-shown output = record { text = string_bytes output.text; unmet = output.unmet }
+shown output = record { text = output.text.items; unmet = output.unmet }
 
 -- an answer is what the command gives, unless it is a free refusal
 abbrev pub TellsMeant : (Result Meant Refusal → Type 0) → Result Output Refusal → Type 0

@@ -9,10 +9,10 @@ use Rattle.mz_base.specs.declared.report.Word.TheVariants as word
 use Rattle.mz_base.specs.declared.romaji.Rule.{Rule}
 use Rattle.composer.specs.Composing.{Composing, preedit_of, cursor_of, reading_of, inserted, backspaced}
 use Rattle.composer.specs.declared.composer.TheConstants.{MOST_SHOWN}
-use Rattle.world_files.specs.declared.script.Command.{Command}
-use Rattle.world_files.specs.declared.script.Command.TheVariants as command
-use Rattle.world_files.specs.declared.script.Key.{Key}
-use Rattle.world_files.specs.declared.script.Key.TheVariants as key
+use Rattle.keys.specs.declared.command.Command.{Command}
+use Rattle.keys.specs.declared.command.Command.TheVariants as command
+use Rattle.keys.specs.declared.key.Key.{Key}
+use Rattle.keys.specs.declared.key.Key.TheVariants as key
 use Rattle.mozc_cli.specs.declared.session.Session.{Session}
 use Rattle.mozc_cli.specs.declared.session.TheConstants.{FIRST_JOB}
 
@@ -122,9 +122,11 @@ pressed_key rules session (key.Char c) = typed rules session c
 pressed_key rules session key.Enter = committed rules session session.composer
 pressed_key rules session key.Escape = cancelled session session.composer
 pressed_key rules session key.Backspace = erased rules session session.composer
+pressed_key rules session _ = passed session
 
--- what a command makes of a session, and its line
+-- what a command makes of a session, and its line; scripts with other commands are refused before
 unfoldable pub step : List Rule → Session → Command → Stepped
 step rules session (command.Key k) = pressed_key rules session k
 step rules session (command.ExpectPreedit text) = expected session text (shown rules session.composer)
 step rules session (command.ExpectResult text) = expected session text session.last
+step rules session _ = passed session

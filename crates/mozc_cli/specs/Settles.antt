@@ -15,30 +15,20 @@ use Rattle.mz_base.specs.declared.status.Status.{Status}
 use Rattle.mz_base.specs.declared.status.Status.TheVariants as status
 use Rattle.mz_outside.specs.Taken.{with_more, AddsFront}
 use Rattle.conversion_meaning.specs.Answers.{answer}
-use Rattle.mozc_cli.specs.Conversions.{IsVerdictOn}
-use Rattle.mozc_cli.specs.Core.{State, play, run_order, start}
+use Rattle.world_files.specs.Conversions.{IsVerdictOn}
+use Rattle.mozc_cli.specs.Core.{State, logs_of, play, run_order, start}
 use Rattle.world_files.specs.Queries.{Claimed, query_set, query_claim}
 use Rattle.world_files.specs.declared.query.Query.{Query}
 use Rattle.world_files.specs.Reading.{Files, UnlessFree}
-use Rattle.mozc_cli.specs.Texts.{report_text}
+use Rattle.report.specs.Texts.{report_text}
+use Rattle.report.specs.declared.room.TheConstants.{MOST_REPORT_BYTES}
+use Rattle.mz_base.specs.declared.logs.ClientLog.{ClientLog}
+use Rattle.mz_base.specs.declared.logs.Logs.{Logs}
 use Rattle.world_files.specs.Worlds.{World, world, listing}
 use Rattle.mozc_cli.specs.declared.args.Request.{Request}
 use Rattle.mozc_cli.specs.declared.args.Request.TheVariants as request
-use Rattle.mozc_cli.specs.declared.outputs.TheConstants.{MOST_OUTPUT_BYTES}
-use Rattle.world_files.specs.declared.refusal.Refusal.{Refusal}
-use Rattle.world_files.specs.declared.refusal.Refusal.TheVariants as refusal
-
--- a refusal as a status
-abbrev pub status_of : Refusal → Status
-status_of (refusal.Absent name) = status.Absent name
-status_of (refusal.BadManifest line) = status.BadManifest line
-status_of (refusal.BadData set) = status.BadData set
-status_of (refusal.TooLarge limit) = status.TooLarge limit
-status_of (refusal.BadCertificate fault) = status.BadCertificate fault
-status_of (refusal.NoSet name) = status.NoSet name
-status_of (refusal.Unbuilt name line) = status.Unbuilt name line
-status_of refusal.ReadFault = status.ReadFault
-status_of refusal.Memory = status.Memory
+use Rattle.mz_base.specs.declared.status.Refusal.{Refusal}
+use Rattle.mz_base.specs.declared.status.Refusal.TheVariants as refusal
 
 -- the line says that what was expected was not found
 abbrev pub is_differs : Word → Bool
@@ -53,22 +43,28 @@ pub record Output : Type 0 where
   pub text : List ℕ
   pub unmet : Bool
 
+-- an expectation of a client was not met
+abbrev pub is_unmet : Logs → Bool
+is_unmet logs = list_any (λ (client : ClientLog). has_differs client.lines) logs.clients
+
 -- what stands after the play of the order of a run, which is always legal
 unfoldable pub run_state : World → State
 run_state world = unwrap_or (play world (run_order world)) (start world)
 
+-- the report of logs
+abbrev pub output_of : Logs → Output
+output_of logs = record { text = report_text logs; unmet = is_unmet logs }
+
 -- the report of a run
 abbrev pub run_output : World → Output
-run_output world =
-    let state = run_state world in
-    record { text = report_text world state; unmet = has_differs state.lines }
+run_output world = output_of (logs_of world (run_state world))
 
 abbrev pub list_output : List ℕ → Output
 list_output text = record { text = text; unmet = false }
 
 -- an output that is not too large
 abbrev pub limited : Output → Result Output Refusal
-limited output = if nat_lt MOST_OUTPUT_BYTES (length output.text) then Err (refusal.TooLarge Report) else Ok output
+limited output = if nat_lt MOST_REPORT_BYTES (length output.text) then Err (refusal.TooLarge Report) else Ok output
 
 -- what running the client of a manifest gives: the report of its world's run
 abbrev pub run_meant : Files → List ℕ → Result Output Refusal
@@ -117,24 +113,22 @@ pub record IsCutShort (Gives : Result Output Refusal → Type 0) (before after :
   pub gives : Gives (Ok output)
   pub front : AddsFront before after output.text
 
--- The command is refused with this answer, and nothing was written. A free refusal says nothing of what the command gives.
-pub record IsRefused (Gives : Result Output Refusal → Type 0) (before after : Option (List ℕ)) (answer : Status) : Type 0 where
-  pub refused : Refusal
-  pub answers : answer ≡ status_of refused
+-- The command is refused, and nothing was written. A free refusal says nothing of what the command gives.
+pub record IsRefused (Gives : Result Output Refusal → Type 0) (before after : Option (List ℕ)) (refused : Refusal) : Type 0 where
   pub gives : UnlessFree refused (Gives (Err refused))
   pub silent : after ≡ before
 
--- What a status says of what the command gives, and what was written. No other status comes than those of `status_of` and these
--- three; when a fault comes, other clauses say.
+-- What a status says of what the command gives, and what was written. Words that are no command have `Usage`, and no other
+-- status comes than these four; when a fault comes, other clauses say.
 abbrev pub Settles : (Result Output Refusal → Type 0) → Option (List ℕ) → Option (List ℕ) → Status → Type 0
 Settles Gives before after status.Ok = IsWritten Gives false before after
 Settles Gives before after status.Unmet = IsWritten Gives true before after
 Settles Gives before after status.WriteFault = IsCutShort Gives before after
-Settles Gives before after answer = IsRefused Gives before after answer
+Settles Gives before after (status.Refused refused) = IsRefused Gives before after refused
+Settles Gives before after status.Usage = ⊥
 
--- nothing was written, except of an output
+-- nothing was written, where the words are no command and where it is refused
 abbrev pub IsSilent : Option (List ℕ) → Option (List ℕ) → Status → Type 0
-IsSilent before after status.Ok = ⊤
-IsSilent before after status.Unmet = ⊤
-IsSilent before after status.WriteFault = ⊤
-IsSilent before after _ = after ≡ before
+IsSilent before after (status.Refused refused) = after ≡ before
+IsSilent before after status.Usage = after ≡ before
+IsSilent before after _ = ⊤

@@ -8,8 +8,8 @@ ghost use Rattle.mozc_cli.specs.Settles.{Means, Settles, IsSilent};
 
 use crate::args::{Request, parse};
 use crate::outputs::output_for;
-use crate::statuses::{refused, written};
-use mz_base::Status;
+use crate::statuses::written;
+use mz_base::{Refusal, Status};
 use mz_outside::{Sink, Store};
 use std::alloc::Global;
 
@@ -37,11 +37,11 @@ pub fn local<S: Store, K: Sink>(
     ensures silent { IsSilent (K.bytes sink.old) (K.bytes sink.new) result }
 
     // Faults come only where they were counted in this call.
-    ensures read_fault { result ≡ Status.ReadFault → Rose (S.faults store.old) (S.faults store.new) }
+    ensures read_fault { result ≡ Status.Refused Refusal.ReadFault → Rose (S.faults store.old) (S.faults store.new) }
     ensures write_fault { result ≡ Status.WriteFault → Rose (K.faults sink.old) (K.faults sink.new) }
 
     // Where memory runs out no fault of the store was counted, so no fault is told as want of memory.
-    ensures memory { result ≡ Status.Memory → S.faults store.new ≡ S.faults store.old }
+    ensures memory { result ≡ Status.Refused Refusal.Memory → S.faults store.new ≡ S.faults store.old }
     ensures same { S.files store.new ≡ S.files store.old }
 {
     match parse(words) {
@@ -60,13 +60,13 @@ fn answer<S: Store, K: Sink>(
     ensures usage { result ≢ Status.Usage }
     ensures settled { (files : Files) → S.files store.old ≡ Some files → Settles (Means files request.now) (K.bytes sink.old) (K.bytes sink.new) result }
     ensures silent { IsSilent (K.bytes sink.old) (K.bytes sink.new) result }
-    ensures read_fault { result ≡ Status.ReadFault → Rose (S.faults store.old) (S.faults store.new) }
+    ensures read_fault { result ≡ Status.Refused Refusal.ReadFault → Rose (S.faults store.old) (S.faults store.new) }
     ensures write_fault { result ≡ Status.WriteFault → Rose (K.faults sink.old) (K.faults sink.new) }
-    ensures memory { result ≡ Status.Memory → S.faults store.new ≡ S.faults store.old }
+    ensures memory { result ≡ Status.Refused Refusal.Memory → S.faults store.new ≡ S.faults store.old }
     ensures same { S.files store.new ≡ S.files store.old }
 {
     match output_for(alloc, store, request) {
         Ok(output) => written(&output, sink),
-        Err(refusal) => refused(refusal),
+        Err(refusal) => Status::Refused(refusal),
     }
 }

@@ -2,7 +2,7 @@ ghost use Rattle.std.specs.Prelude.{◌≡◌, ◌<◌, ◌^◌, [], IfOk, lengt
 ghost use Rattle.conversion_meaning.specs.Lattices.{AreBounds, IsKey, IsLatticeOf, IsWellFormed};
 ghost use Rattle.conversion_meaning.specs.Paths.{whole};
 ghost use Rattle.conversion_meaning.specs.Answers.{answer};
-ghost use Rattle.mozc_cli.specs.Conversions.{IsVerdictOn};
+ghost use Rattle.world_files.specs.Conversions.{IsVerdictOn};
 
 use mz_base::{CertFault, Certificate, DataSet, Lattice, NoMemory, NoUserWords, Span};
 use std::alloc::Global;

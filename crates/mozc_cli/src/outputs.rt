@@ -1,35 +1,31 @@
-ghost use Rattle.std.specs.Prelude.{◌≡◌, ◌≢◌, ◌++◌, ◌<◌, Some, Ok, Err, IfOk, codes, length};
+ghost use Rattle.std.specs.Prelude.{◌≡◌, ◌≢◌, ◌++◌, ◌<◌, Some, Ok, Err, codes, length};
 ghost use Rattle.std.specs.Fmt.{signed_decimal};
-ghost use Rattle.std.specs.Option.{option_copied};
+ghost use Rattle.std.specs.String.{string_bytes};
 ghost use Rattle.cert_text.specs.Texts.{certificate_text};
 ghost use Rattle.conversion_meaning.specs.Lattices.{AreBounds, IsKey};
-ghost use Rattle.world_files.specs.Loaded.{world_of};
+ghost use Rattle.report.specs.Names.{AreNamed};
+ghost use Rattle.report.specs.Texts.{report_text};
+ghost use Rattle.world_files.specs.Loaded.{HasUser, world_of};
 ghost use Rattle.world_files.specs.Queries.{query_set, query_claim};
 ghost use Rattle.world_files.specs.Reading.{Files, Reads, Tells};
 ghost use Rattle.mozc_cli.specs.Args.{IsFit};
 ghost use Rattle.mozc_cli.specs.Reported.{shown, TellsMeant};
-ghost use Rattle.mozc_cli.specs.Settles.{Means, MeansVerdict, answered, convert_meant, has_differs, list_output, run_output, run_meant, check_meant, limited};
-ghost use Rattle.mozc_cli.specs.Texts.{client_name};
+ghost use Rattle.mozc_cli.specs.Settles.{Means, MeansVerdict, answered, convert_meant, has_differs, list_output, run_output, run_meant, check_meant, is_unmet, limited, output_of};
 
 use crate::args::Request;
 use crate::convert::{convert, verify};
-use crate::report::print;
 use crate::run::serve;
 use engine::Engine;
-use mz_base::{Certificate, DataSet, Limit, Line, NoMemory, Text, Word};
+use mz_base::{Certificate, DataSet, Limit, Line, Logs, Refusal, Word};
 use mz_outside::Store;
+use report::{MOST_REPORT_BYTES, PrintError};
 use std::alloc::Global;
-use world_files::{
-    Bounds, Loaded, Name, Plan, Query, Refusal, read_claim, read_listing, read_set, read_world,
-};
-
-/// The most bytes of an output.
-pub const MOST_OUTPUT_BYTES: usize = 1 << 30;
+use world_files::{Bounds, Loaded, Name, Query, read_claim, read_listing, read_set, read_world};
 
 /// What a command writes, and whether an expectation was not met in it.
 #[derive(Drop)]
 pub struct Output {
-    pub text: String,
+    pub text: Vec<u8>,
     pub unmet: bool,
 }
 
@@ -60,10 +56,32 @@ fn report_in<S: Store>(alloc: Global, store: &mut S, name: &Name<'_>) -> Result<
 }
 
 fn report_in_limit(alloc: Global, world: &Loaded) -> Result<Output, Refusal>
+    requires user { HasUser world.now }
     ensures told { Tells shown result (limited (run_output (world_of world.now (⟦<Engine as DataSet>⟧.lists world.now.set)))) }
     ensures reads_nothing { result ≢ Err Refusal.ReadFault }
 {
-    limited(report_of(alloc, world)?)
+    let logs = serve(
+        alloc,
+        &world.set,
+        world.user.as_ref(),
+        world.client.as_ref(),
+    )?;
+    report_of(alloc, &logs)
+}
+
+fn report_of(alloc: Global, logs: &Logs) -> Result<Output, Refusal>
+    requires { AreNamed logs.now }
+    ensures told { Tells shown result (limited (output_of logs.now)) }
+    ensures reads_nothing { result ≢ Err Refusal.ReadFault }
+{
+    match report::print(alloc, logs) {
+        Ok(text) => Ok(Output {
+            text,
+            unmet: is_unmet(logs),
+        }),
+        Err(PrintError::TooLarge) => Err(Refusal::TooLarge(Limit::Report)),
+        Err(PrintError::NoMemory) => Err(Refusal::Memory),
+    }
 }
 
 fn listing_in<S: Store>(alloc: Global, store: &mut S, name: &Name<'_>) -> Result<Output, Refusal>
@@ -72,7 +90,7 @@ fn listing_in<S: Store>(alloc: Global, store: &mut S, name: &Name<'_>) -> Result
 {
     let name = name.to_text(alloc)?;
     let text = read_listing(alloc, store, &name)?;
-    limited(Output { text, unmet: false })
+    listed(text)
 }
 
 fn conversion_in<S: Store>(
@@ -125,7 +143,7 @@ fn converted<D: DataSet>(
     let bounds = bounds.to_vec(alloc)?;
     let certificate = convert(alloc, set, key, bounds.as_slice())?;
     let text = cert_text::print(alloc, &certificate)?;
-    limited(Output { text, unmet: false })
+    listed(text)
 }
 
 fn judged<D: DataSet>(
@@ -151,44 +169,37 @@ fn verdict_output(alloc: Global, total: i64) -> Result<Output, Refusal>
 {
     let mut text = String::new(alloc);
     write!(&mut text, "ok\t{total}\n")?;
-    limited(Output { text, unmet: false })
+    listed(text)
+}
+
+/// A text in which nothing is expected, as an output that is not too large.
+fn listed(text: String) -> Result<Output, Refusal>
+    ensures told { Tells shown result (limited (list_output (string_bytes text))) }
+    ensures reads_nothing { result ≢ Err Refusal.ReadFault }
+{
+    limited(Output {
+        text: text.into_bytes(),
+        unmet: false,
+    })
 }
 
 fn limited(output: Output) -> Result<Output, Refusal>
     ensures told { Tells shown result (limited (shown output)) }
     ensures reads_nothing { result ≢ Err Refusal.ReadFault }
 {
-    if MOST_OUTPUT_BYTES < output.text.len() {
+    if MOST_REPORT_BYTES < output.text.len() {
         return Err(Refusal::TooLarge(Limit::Report));
     }
     Ok(output)
 }
 
-fn report_of(alloc: Global, world: &Loaded) -> Result<Output, NoMemory>
-    ensures { IfOk result (λ output. shown output ≡ run_output (world_of world.now (⟦<Engine as DataSet>⟧.lists world.now.set))) }
+fn is_unmet(logs: &Logs) -> bool
+    ensures { result ≡ is_unmet logs.now }
 {
-    let client = world.client.as_ref();
-    let served = serve(alloc, &world.set, client)?;
-    let text = print(
-        alloc,
-        world.user.as_ref(),
-        name_of(client),
-        served.lines.as_slice(),
-        served.events.as_slice(),
-    )?;
-    Ok(Output {
-        text,
-        unmet: has_differs(served.lines.as_slice()),
-    })
-}
-
-fn name_of(client: Option<&Plan>) -> Option<&Text>
-    ensures { option_copied result ≡ client_name (option_copied client.entry) }
-{
-    match client {
-        Some(plan) => Some(&plan.name),
-        None => None,
-    }
+    logs.clients
+        .as_slice()
+        .iter()
+        .any(|client| has_differs(client.lines.as_slice()))
 }
 
 fn has_differs(lines: &[Line]) -> bool

@@ -4,9 +4,9 @@ ghost use Rattle.composer.specs.Composing.{preedit_of, cursor_of};
 ghost use Rattle.mozc_cli.specs.Sessions.{opening, mode_of, version_of, needs_take, is_char, plain_line, found_line, composing_line, kept, composed, typed, passed, committed, cancelled, erased, shown, expected, pressed_key, step};
 
 use composer::{Composer, InsertError};
+use keys::{Command, Key};
 use mz_base::{Line, Mode, NoMemory, Romaji, Seq, Text, Word};
 use std::alloc::Global;
-use world_files::{Command, Key};
 
 /// The number of the one job, whose data each composition takes.
 pub const FIRST_JOB: u32 = 1;
@@ -52,6 +52,7 @@ impl Session {
             Command::Key(key) => self.press(alloc, table, *key),
             Command::ExpectPreedit(text) => self.expect_shown(alloc, table, text),
             Command::ExpectResult(text) => self.expect(alloc, text, self.last.as_chars()),
+            Command::Select(_) | Command::Reset | Command::Await(_) => Ok(self.pass(alloc)),
         }
     }
 
@@ -64,6 +65,7 @@ impl Session {
             Key::Enter => self.commit(alloc, table),
             Key::Escape => Ok(self.cancel(alloc)),
             Key::Backspace => self.erase(alloc, table),
+            _ => Ok(self.pass(alloc)),
         }
     }
 
@@ -183,6 +185,12 @@ impl Session {
             result: empty(alloc),
             rest: Seq::from_vec(rest),
         })
+    }
+
+    fn pass(&self, alloc: Global) -> Line
+        ensures { passed self.now ≡ record { session = self.now; line = result } }
+    {
+        self.plain_line(alloc, Word::Pass)
     }
 
     fn mode(&self) -> Mode

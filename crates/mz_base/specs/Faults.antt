@@ -1,9 +1,16 @@
--- The texts of faults: docs/FORMATS.md, "Faults".
-use Rattle.std.specs.Prelude.{ℕ, List, [], ◌∷◌, codes}
+-- Roles, and the texts of faults: docs/FORMATS.md, "Faults".
+use Rattle.std.specs.Prelude.{ℕ, Bool, List, [], ◌∷◌, codes}
 use Rattle.std.specs.List.{join_with_byte}
 use Rattle.std.specs.Fmt.{decimal}
+use denote.Enum.Bare.{sameb}
+use Rattle.mz_base.specs.contracts.fault.Role.{the_type}
 use Rattle.mz_base.specs.declared.fault.FaultKind.{FaultKind}
+use Rattle.mz_base.specs.declared.fault.Role.{Role}
 use Rattle.mz_base.specs.declared.fault.FaultKind.TheVariants.{NotUtf8, Fields, Empty, Class, Number, Range, NoFeature, LongPending, Limit, Size, Count}
+
+-- two roles are one
+unfoldable pub same_role : Role → Role → Bool
+same_role = sameb the_type
 
 -- a fault's name, and its numbers
 abbrev pub kind_fields : FaultKind → List (List ℕ)

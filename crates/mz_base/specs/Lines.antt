@@ -1,5 +1,5 @@
 -- The lines of a file and the fields of a line: docs/FORMATS.md, "Lines and fields".
-use Rattle.std.specs.Prelude.{ℕ, ◌-◌, ◌==◌, List, [], ◌∷◌, map, Option, Some, None, if◌then◌else◌, length, take, drop, slice_index, nat_eq}
+use Rattle.std.specs.Prelude.{ℕ, ◌-◌, ◌==◌, ◌||◌, Bool, List, [], ◌∷◌, map, Option, Some, None, if◌then◌else◌, length, take, drop, slice_index, nat_eq}
 use Rattle.std.specs.Borrow.{Bor}
 use Rattle.std.specs.List.{slice_split, starts_with}
 use Rattle.std.specs.Str.{is_utf8}
@@ -30,6 +30,10 @@ lines_of bytes =
 -- the bytes of a line that is text
 abbrev pub text_line : List ℕ → Option (List ℕ)
 text_line line = if is_utf8 line then Some line else None
+
+-- an empty line, and a line that begins with #
+abbrev pub is_skipped : List ℕ → Bool
+is_skipped line = length line == 0 || slice_index line 0 == 35
 
 -- the fields of a line, which one tab separates
 abbrev pub fields_of : List ℕ → List (List ℕ)

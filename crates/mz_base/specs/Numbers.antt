@@ -3,6 +3,7 @@ use Rattle.std.specs.Prelude.{ℕ, ℤ, pos, neg_ℤ, Bool, ◌&&◌, List, Opti
 use Rattle.std.specs.Char.{is_ascii_digit}
 use Rattle.std.specs.List.{list_all}
 use Rattle.std.specs.Str.Parse.{digits_value}
+use Rattle.mz_base.specs.declared.numbers.TheConstants.{MOST_DIGITS}
 
 -- one digit or more, and at most so many; leading zeros count
 abbrev pub is_numeral : ℕ → List ℕ → Bool
@@ -12,9 +13,9 @@ is_numeral most text = nat_le 1 (length text) && (nat_le (length text) most && l
 unfoldable pub unsigned_of : ℕ → List ℕ → Option ℕ
 unsigned_of most text = if is_numeral most text then Some (digits_value 10 text) else None
 
--- a number has one to ten digits
+-- a number has one to `MOST_DIGITS` digits
 abbrev pub number_of : List ℕ → Option ℕ
-number_of text = unsigned_of 10 text
+number_of text = unsigned_of MOST_DIGITS text
 
 abbrev pub negated : Option ℕ → Option ℤ
 negated None = None

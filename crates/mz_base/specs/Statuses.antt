@@ -6,26 +6,32 @@ use Rattle.mz_base.specs.declared.status.Limit.{Limit}
 use Rattle.mz_base.specs.declared.status.Limit.TheVariants as limit
 use Rattle.mz_base.specs.declared.status.CertFault.{CertFault}
 use Rattle.mz_base.specs.declared.status.CertFault.TheVariants as certificate
+use Rattle.mz_base.specs.declared.status.Refusal.{Refusal}
+use Rattle.mz_base.specs.declared.status.Refusal.TheVariants as refusal
 use Rattle.mz_base.specs.declared.status.Status.{Status}
 use Rattle.mz_base.specs.declared.status.Status.TheVariants as status
+
+-- the number with which the program ends after a refusal
+abbrev pub refusal_number : Refusal → ℕ
+refusal_number refusal.Memory = 1
+refusal_number refusal.ReadFault = 3
+refusal_number (refusal.Absent _) = 5
+refusal_number (refusal.BadManifest _) = 6
+refusal_number (refusal.BadScript _ _) = 7
+refusal_number (refusal.BadData _) = 8
+refusal_number (refusal.TooLarge _) = 9
+refusal_number (refusal.BadSchedule _) = 10
+refusal_number (refusal.BadCertificate _) = 11
+refusal_number (refusal.NoSet _) = 13
+refusal_number (refusal.Unbuilt _ _) = 20
 
 -- the number with which the program ends
 abbrev pub status_number : Status → ℕ
 status_number status.Ok = 0
-status_number status.Memory = 1
 status_number status.Usage = 2
-status_number status.ReadFault = 3
 status_number status.WriteFault = 4
-status_number (status.Absent _) = 5
-status_number (status.BadManifest _) = 6
-status_number (status.BadScript _ _) = 7
-status_number (status.BadData _) = 8
-status_number (status.TooLarge _) = 9
-status_number (status.BadSchedule _) = 10
-status_number (status.BadCertificate _) = 11
 status_number status.Unmet = 12
-status_number (status.NoSet _) = 13
-status_number (status.Unbuilt _ _) = 20
+status_number (status.Refused refused) = refusal_number refused
 
 abbrev pub limit_text : Limit → List ℕ
 limit_text limit.Bytes = codes "Bytes"
@@ -53,20 +59,24 @@ certificate_text (certificate.Path place) = codes "Path " ++ decimal place
 certificate_text (certificate.Edge from to) = codes "Edge " ++ spaced (end_text (codes "start") from) (end_text (codes "end") to)
 certificate_text (certificate.Total said found) = codes "Total " ++ spaced (signed_decimal said) (signed_decimal found)
 
--- a status's name, and its fields, separated by spaces
+-- a refusal's name, and its fields, separated by spaces
+abbrev pub refusal_text : Refusal → List ℕ
+refusal_text refusal.Memory = codes "Memory"
+refusal_text refusal.ReadFault = codes "ReadFault"
+refusal_text (refusal.Absent name) = codes "Absent " ++ encode_utf8_all name
+refusal_text (refusal.BadManifest line) = codes "BadManifest " ++ decimal line
+refusal_text (refusal.BadScript file line) = codes "BadScript " ++ spaced (encode_utf8_all file) (decimal line)
+refusal_text (refusal.BadData set) = codes "BadData " ++ spaced (encode_utf8_all set.path) (kind_text set.fault.kind)
+refusal_text (refusal.TooLarge limit) = codes "TooLarge " ++ limit_text limit
+refusal_text (refusal.BadSchedule line) = codes "BadSchedule " ++ decimal line
+refusal_text (refusal.BadCertificate fault) = codes "BadCertificate " ++ certificate_text fault
+refusal_text (refusal.NoSet name) = codes "NoSet " ++ encode_utf8_all name
+refusal_text (refusal.Unbuilt file line) = codes "Unbuilt " ++ spaced (encode_utf8_all file) (decimal line)
+
+-- a status's name, or the text of its refusal
 abbrev pub status_text : Status → List ℕ
 status_text status.Ok = codes "Ok"
-status_text status.Memory = codes "Memory"
 status_text status.Usage = codes "Usage"
-status_text status.ReadFault = codes "ReadFault"
 status_text status.WriteFault = codes "WriteFault"
-status_text (status.Absent name) = codes "Absent " ++ encode_utf8_all name
-status_text (status.BadManifest line) = codes "BadManifest " ++ decimal line
-status_text (status.BadScript file line) = codes "BadScript " ++ spaced (encode_utf8_all file) (decimal line)
-status_text (status.BadData set) = codes "BadData " ++ spaced (encode_utf8_all set.path) (kind_text set.fault.kind)
-status_text (status.TooLarge limit) = codes "TooLarge " ++ limit_text limit
-status_text (status.BadSchedule line) = codes "BadSchedule " ++ decimal line
-status_text (status.BadCertificate fault) = codes "BadCertificate " ++ certificate_text fault
 status_text status.Unmet = codes "Unmet"
-status_text (status.NoSet name) = codes "NoSet " ++ encode_utf8_all name
-status_text (status.Unbuilt file line) = codes "Unbuilt " ++ spaced (encode_utf8_all file) (decimal line)
+status_text (status.Refused refused) = refusal_text refused

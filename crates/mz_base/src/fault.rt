@@ -1,4 +1,5 @@
 ghost use Rattle.std.specs.Prelude.{◌≡◌};
+ghost use Rattle.mz_base.specs.Faults.{same_role};
 
 use crate::NoMemory;
 use std::alloc::{AllocError, AllocFailed};
@@ -17,6 +18,14 @@ pub enum Role {
     Dictionary,
     Symbol,
     Kanji,
+}
+
+/// Whether two roles are one.
+#[tactic(auto, unfolding(crate::specs::Faults::same_role))]
+pub fn same_role(role: Role, other: Role) -> bool
+    ensures { result ≡ same_role role other }
+{
+    role == other
 }
 
 /// What is wrong with a data file. A number without a name is the line, from 1.

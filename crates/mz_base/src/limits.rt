@@ -3,7 +3,8 @@ ghost use Rattle.mz_base.specs.Limits.{is_cost, is_long};
 
 use crate::{
     LEAST_COST, MOST_COST, MOST_DIGITS, MOST_FIELD_BYTES, MOST_HOMOPHONES, MOST_IDS, MOST_KEY,
-    MOST_LOOKED_UP, MOST_ROWS, MOST_USER_HOMOPHONES, MOST_USER_ROWS, MOST_WORDS,
+    MOST_LOOKED_UP, MOST_ROWS, MOST_SIGNED_DIGITS, MOST_USER_HOMOPHONES, MOST_USER_ROWS,
+    MOST_WORDS,
 };
 
 /// Whether a word and a connection may have this cost.
@@ -32,6 +33,7 @@ pub fn limits_are()
     ensures looked_up { MOST_LOOKED_UP ≡ 65535 }
     ensures key { MOST_KEY ≡ 256 }
     ensures digits { MOST_DIGITS ≡ 10 }
+    ensures signed_digits { MOST_SIGNED_DIGITS ≡ 18 }
     ensures user_rows { MOST_USER_ROWS ≡ 100000 }
     ensures user_homophones { MOST_USER_HOMOPHONES ≡ 500 }
 {}

@@ -2,7 +2,7 @@ ghost use Rattle.std.specs.Prelude.{◌≡◌, ◌==◌, ◌∷◌, ◌+◌, ◌
 ghost use Rattle.std.specs.List.{slice_split};
 ghost use Rattle.std.specs.Option.{option_copied};
 ghost use Rattle.std.specs.Str.Lines.{strip_carriage_return};
-ghost use Rattle.mz_base.specs.Lines.{without_mark, without_last_feed, lines_in, lines_of, text_line, fields_of, pointed, parts_left};
+ghost use Rattle.mz_base.specs.Lines.{without_mark, without_last_feed, lines_in, lines_of, text_line, fields_of, is_skipped, pointed, parts_left};
 
 use crate::NoMemory;
 use std::alloc::Global;
@@ -65,6 +65,16 @@ pub fn text_of_line(line: &[u8]) -> Option<&str>
     ensures { option_copied result ≡ text_line line.now }
 {
     str::from_utf8(line).ok()
+}
+
+/// Whether a line of a manifest or a script says nothing: it is empty, or begins with `#`.
+pub fn is_skipped(line: &[u8]) -> bool
+    ensures { result ≡ is_skipped line.now }
+{
+    match line {
+        [] => true,
+        [first, ..] => *first == b'#',
+    }
 }
 
 /// The fields of a line, without a copy.

@@ -1,7 +1,8 @@
 ghost use Rattle.std.specs.Prelude.{◌≡◌};
-ghost use Rattle.mz_base.specs.Statuses.{status_number};
+ghost use Rattle.mz_base.specs.Statuses.{refusal_number, status_number};
 
-use crate::{Fault, Text};
+use crate::{Fault, NoMemory, Text};
+use std::alloc::{AllocError, AllocFailed};
 use std::fmt;
 
 /// The quantity that passes its limit.
@@ -39,33 +40,61 @@ pub enum CertFault {
     Total { said: i64, found: i64 },
 }
 
-/// What a call of the program answers.
+/// Why a command writes nothing.
 #[derive(Drop)]
-pub enum Status {
-    /// The whole output was written.
-    Ok,
+pub enum Refusal {
     Memory,
-    /// The words match no command.
-    Usage,
     ReadFault,
-    WriteFault,
     /// A file that is not there, by name.
     Absent(Text),
     /// The line of the manifest.
     BadManifest(u64),
     /// A script, and the line.
     BadScript(Text, u64),
+    /// The first data set that does not read.
     BadData(BadSet),
     TooLarge(Limit),
     /// The line of the schedule.
     BadSchedule(u64),
     BadCertificate(CertFault),
-    /// The whole report was written, and it has a line `differs` or `notyet`.
-    Unmet,
     /// A data set that the manifest does not name.
     NoSet(Text),
     /// A file, and the line whose form is not built yet.
     Unbuilt(Text, u64),
+}
+
+/// What a call of the program answers.
+#[derive(Drop)]
+pub enum Status {
+    /// The whole output was written.
+    Ok,
+    /// The words match no command.
+    Usage,
+    WriteFault,
+    /// The whole report was written, and it has a line `differs` or `notyet`.
+    Unmet,
+    /// Nothing was written.
+    Refused(Refusal),
+}
+
+impl Refusal {
+    fn number(&self) -> u8
+        ensures { result ≡ refusal_number self.now }
+    {
+        match self {
+            Refusal::Memory => 1,
+            Refusal::ReadFault => 3,
+            Refusal::Absent(_) => 5,
+            Refusal::BadManifest(_) => 6,
+            Refusal::BadScript(..) => 7,
+            Refusal::BadData(_) => 8,
+            Refusal::TooLarge(_) => 9,
+            Refusal::BadSchedule(_) => 10,
+            Refusal::BadCertificate(_) => 11,
+            Refusal::NoSet(_) => 13,
+            Refusal::Unbuilt(..) => 20,
+        }
+    }
 }
 
 impl Status {
@@ -75,21 +104,41 @@ impl Status {
     {
         match self {
             Status::Ok => 0,
-            Status::Memory => 1,
             Status::Usage => 2,
-            Status::ReadFault => 3,
             Status::WriteFault => 4,
-            Status::Absent(_) => 5,
-            Status::BadManifest(_) => 6,
-            Status::BadScript(..) => 7,
-            Status::BadData(_) => 8,
-            Status::TooLarge(_) => 9,
-            Status::BadSchedule(_) => 10,
-            Status::BadCertificate(_) => 11,
             Status::Unmet => 12,
-            Status::NoSet(_) => 13,
-            Status::Unbuilt(..) => 20,
+            Status::Refused(refusal) => refusal.number(),
         }
+    }
+}
+
+impl From<NoMemory> for Refusal {
+    ghost use Rattle.mz_base.specs.declared.status.Refusal.TheVariants.{Memory};
+
+    ghost from_gives = { λ _ e. e ≡ Memory };
+
+    fn from(_error: NoMemory) -> Refusal {
+        Refusal::Memory
+    }
+}
+
+impl From<AllocError> for Refusal {
+    ghost use Rattle.mz_base.specs.declared.status.Refusal.TheVariants.{Memory};
+
+    ghost from_gives = { λ _ e. e ≡ Memory };
+
+    fn from(_error: AllocError) -> Refusal {
+        Refusal::Memory
+    }
+}
+
+impl<T: Drop> From<AllocFailed<T>> for Refusal {
+    ghost use Rattle.mz_base.specs.declared.status.Refusal.TheVariants.{Memory};
+
+    ghost from_gives = { λ _ e. e ≡ Memory };
+
+    fn from(_error: AllocFailed<T>) -> Refusal {
+        Refusal::Memory
     }
 }
 
@@ -146,6 +195,32 @@ impl fmt::Display for CertFault {
     }
 }
 
+impl fmt::Display for Refusal {
+    ghost use Rattle.std.specs.Prelude.{Some};
+    ghost use Rattle.mz_base.specs.Statuses.{refusal_text};
+
+    ghost output = { λ refusal. Some (refusal_text refusal) };
+
+    fn fmt<W: fmt::Write>(&self, f: &mut fmt::Formatter<W>) -> fmt::Result {
+        match self {
+            Refusal::Memory => write!(f, "Memory"),
+            Refusal::ReadFault => write!(f, "ReadFault"),
+            Refusal::Absent(name) => write!(f, "Absent {name}"),
+            Refusal::BadManifest(line) => write!(f, "BadManifest {line}"),
+            Refusal::BadScript(file, line) => write!(f, "BadScript {file} {line}"),
+            Refusal::BadData(set) => {
+                let kind = set.fault.kind;
+                write!(f, "BadData {} {kind}", set.path)
+            }
+            Refusal::TooLarge(limit) => write!(f, "TooLarge {limit}"),
+            Refusal::BadSchedule(line) => write!(f, "BadSchedule {line}"),
+            Refusal::BadCertificate(fault) => write!(f, "BadCertificate {fault}"),
+            Refusal::NoSet(name) => write!(f, "NoSet {name}"),
+            Refusal::Unbuilt(file, line) => write!(f, "Unbuilt {file} {line}"),
+        }
+    }
+}
+
 impl fmt::Display for Status {
     ghost use Rattle.std.specs.Prelude.{Some};
     ghost use Rattle.mz_base.specs.Statuses.{status_text};
@@ -155,23 +230,10 @@ impl fmt::Display for Status {
     fn fmt<W: fmt::Write>(&self, f: &mut fmt::Formatter<W>) -> fmt::Result {
         match self {
             Status::Ok => write!(f, "Ok"),
-            Status::Memory => write!(f, "Memory"),
             Status::Usage => write!(f, "Usage"),
-            Status::ReadFault => write!(f, "ReadFault"),
             Status::WriteFault => write!(f, "WriteFault"),
-            Status::Absent(name) => write!(f, "Absent {name}"),
-            Status::BadManifest(line) => write!(f, "BadManifest {line}"),
-            Status::BadScript(file, line) => write!(f, "BadScript {file} {line}"),
-            Status::BadData(set) => {
-                let kind = set.fault.kind;
-                write!(f, "BadData {} {kind}", set.path)
-            }
-            Status::TooLarge(limit) => write!(f, "TooLarge {limit}"),
-            Status::BadSchedule(line) => write!(f, "BadSchedule {line}"),
-            Status::BadCertificate(fault) => write!(f, "BadCertificate {fault}"),
             Status::Unmet => write!(f, "Unmet"),
-            Status::NoSet(name) => write!(f, "NoSet {name}"),
-            Status::Unbuilt(file, line) => write!(f, "Unbuilt {file} {line}"),
+            Status::Refused(refusal) => write!(f, "{refusal}"),
         }
     }
 }

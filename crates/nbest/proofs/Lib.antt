@@ -1,5 +1,7 @@
 pub mod CostLemmas
 pub mod CountLemmas
+pub mod EndLemmas
+pub mod FamilyLemmas
 pub mod FirstLemmas
 pub mod GrowLemmas
 pub mod QueueLemmas

@@ -1,7 +1,7 @@
 -- The steps of a search: it begins, its first tail grows, its first tail is taken.
 use Rattle.std.proofs.Common.{◌≡◌, refl, sym, ap, ◌∙◌, subst, ℕ, ◌+◌, ◌<◌, ◌≤◌, Bool, true, false, List, [], ◌∷◌, Option, Some, None, Result, Ok, Err, drop, length, get_or, arith}
 use Rattle.std.specs.Prelude.{ℤ, pos, ◌+ℤ◌, ◌-ℤ◌, IfOk, count_by, reverse, slice_index_or, OnErr, OnOk}
-use Rattle.std.specs.List.{All, range_with_len, sum_by}
+use Rattle.std.specs.List.{range_with_len}
 use Rattle.std.specs.List.Sorted.{IsPermutation}
 use Rattle.std.proofs.lemmas.Bool.Decides.{nat_tests}
 use Rattle.std.proofs.lemmas.Int.{ints}
@@ -20,7 +20,7 @@ use Rattle.conversion_meaning.specs.Potentials.{AreLeastCosts, IsLeastCost, is_i
 use Rattle.conversion_meaning.proofs.CostBounds.{IsWithin-least}
 use Rattle.viterbi.specs.Table.{most_reached}
 use Rattle.nbest.specs.Costs.{by_ordinal}
-use Rattle.nbest.specs.Searches.{AreCosts, AreLonger, Gives, IsJoin, IsSearch, IsTail, Search, begin_of, ends_so, first_found, first_of, found_from, is_open, left, longer_tails}
+use Rattle.nbest.specs.Searches.{AreCosts, AreLonger, Gives, IsJoin, IsSearch, IsTail, Search, begin_of, ends_so, first_found, first_of, found_from, is_open, still_to_come, longer_tails}
 use Rattle.nbest.specs.Tails.{Ending, IsFirstOf, Replaces, no_ending}
 use Rattle.nbest.specs.Weights.{weight, weight_of}
 use Rattle.nbest.specs.declared.found.Found.{Found}
@@ -29,7 +29,7 @@ use Rattle.nbest.proofs.CostLemmas.{by_ordinal-at, by_ordinal-other, length-by_o
 use Rattle.nbest.proofs.CountLemmas.{All-replaced, All-taken, sum_replaced, sum_taken, tally}
 use Rattle.nbest.proofs.FirstLemmas.{is_open-first, open_first, whole_first}
 use Rattle.nbest.proofs.GrowLemmas.{All-longer, count_longer, weight-longer}
-use Rattle.nbest.proofs.SearchLemmas.{cost_is, left-all, left-none, left-same, left-taken}
+use Rattle.nbest.proofs.SearchLemmas.{cost_is, still_to_come-all, still_to_come-none, still_to_come-same, still_to_come-taken}
 
 -- ---- The least costs by ordinal
 
@@ -97,8 +97,8 @@ module _ (d : DataLists) (l : Lattice) (span : Span) (well : IsWellFormed d l) (
     once = λ path joined. (let n = one path joined in omega (arith, n));
   }
 
-  pub left-begun : left d l.entries (record { span = span; costs = costs; queue = queue }) ≡ paths_in_order d l.entries span
-  left-begun = left-all d l span well is costs queue one
+  pub still_to_come-begun : still_to_come d l.entries (record { span = span; costs = costs; queue = queue }) ≡ paths_in_order d l.entries span
+  still_to_come-begun = still_to_come-all d l span well is costs queue one
 
 -- ---- The first tail grows
 
@@ -115,7 +115,7 @@ module _ (d : DataLists) (l : Lattice) (s : Search) (well : IsWellFormed d l) (s
   counted : (path : List ℕ) → IsPathOver l.entries s.span path → count_by (ends_so path) new ≡ count_by (ends_so path) s.queue
   counted path joined =
       let a = sum_replaced (λ e. tally (ends_so path e)) s.queue tails new replaced in
-      let b = ap (count_by (ends_so path)) longer.are in
+      let b = sum_by-IsPermutation (λ e. tally (ends_so path e)) (longer_tails d l s.span s.costs first.ordinals longer.join) tails longer.are in
       let c = count_longer d l s.span well search.span s.costs first.ordinals longer.join path longer.joins.begin_is (open_first l.entries s.span s.queue opens).1 joined in
       omega (arith, a, b, c)
 
@@ -123,18 +123,18 @@ module _ (d : DataLists) (l : Lattice) (s : Search) (well : IsWellFormed d l) (s
   IsSearch-longer = record {
     span = search.span;
     costs = search.costs;
-    tails = All-replaced (IsTail d l.entries s.span) s.queue tails new replaced search.tails (subst (λ ts. All (IsTail d l.entries s.span) ts) (sym longer.are) (All-longer d l s.span well search.span s.costs first.ordinals longer.join search.costs first_tail.part longer.joins));
+    tails = All-replaced (IsTail d l.entries s.span) s.queue tails new replaced search.tails (All-permutation (IsTail d l.entries s.span) (longer_tails d l s.span s.costs first.ordinals longer.join) tails longer.are (All-longer d l s.span well search.span s.costs first.ordinals longer.join search.costs first_tail.part longer.joins));
     once = λ path joined. (let n = counted path joined in let o = search.once path joined in omega (arith, n, o));
   }
 
-  pub left-longer : left d l.entries (record { span = s.span; costs = s.costs; queue = new }) ≡ left d l.entries s
-  left-longer = left-same d l s.span well search.span s.costs s.costs s.queue new counted
+  pub still_to_come-longer : still_to_come d l.entries (record { span = s.span; costs = s.costs; queue = new }) ≡ still_to_come d l.entries s
+  still_to_come-longer = still_to_come-same d l s.span well search.span s.costs s.costs s.queue new counted
 
   pub weight-less : weight l s.span new < weight l s.span s.queue
   unfolding weight
   weight-less =
       let a = sum_replaced (weight_of l s.span) s.queue tails new replaced in
-      let b = ap (sum_by (weight_of l s.span)) longer.are in
+      let b = sum_by-IsPermutation (weight_of l s.span) (longer_tails d l s.span s.costs first.ordinals longer.join) tails longer.are in
       let c = weight-longer d l s.span well search.span s.costs first longer.join first_tail.part longer.joins.begin_is in
       omega (arith, a, b, c)
 
@@ -145,10 +145,10 @@ module _ (d : DataLists) (l : Lattice) (s : Search) (well : IsWellFormed d l) (s
   IsSearch-grown (Err _) replaced kept =
       subst (λ q. IsSearch d l (record { span = s.span; costs = s.costs; queue = q })) (sym kept) search
 
-  pub left-grown : (r : Result (Unit {0}) NoMemory) → OnOk r (Replaces s.queue tails new) → OnErr r (new ≡ s.queue) → left d l.entries (record { span = s.span; costs = s.costs; queue = new }) ≡ left d l.entries s
-  left-grown (Ok _) replaced kept = left-longer d l s well search opens tails new longer replaced
-  left-grown (Err _) replaced kept =
-      ap (λ q. left d l.entries (record { span = s.span; costs = s.costs; queue = q })) kept
+  pub still_to_come-grown : (r : Result (Unit {0}) NoMemory) → OnOk r (Replaces s.queue tails new) → OnErr r (new ≡ s.queue) → still_to_come d l.entries (record { span = s.span; costs = s.costs; queue = new }) ≡ still_to_come d l.entries s
+  still_to_come-grown (Ok _) replaced kept = still_to_come-longer d l s well search opens tails new longer replaced
+  still_to_come-grown (Err _) replaced kept =
+      ap (λ q. still_to_come d l.entries (record { span = s.span; costs = s.costs; queue = q })) kept
 
   pub weight-grown : (r : Result (Unit {0}) NoMemory) → OnOk r (Replaces s.queue tails new) → OnOk r (weight l s.span new < weight l s.span s.queue)
   weight-grown (Ok _) replaced = weight-less d l s well search opens tails new longer replaced
@@ -170,12 +170,12 @@ module _ (d : DataLists) (l : Lattice) (s new : Search) (well : IsWellFormed d l
   -- what a search gives where its first tail is whole, or it has none
   pub record Given (found : Option Found) : Type 0 where
     pub search_is : IsSearch d l new
-    pub found_is : found ≡ first_found d l.entries s.span (left d l.entries s)
-    pub rest_is : left d l.entries new ≡ drop 1 (left d l.entries s)
+    pub found_is : found ≡ first_found d l.entries s.span (still_to_come d l.entries s)
+    pub rest_is : still_to_come d l.entries new ≡ drop 1 (still_to_come d l.entries s)
 
-  none_left : s.queue ≡ [] → left d l.entries s ≡ []
+  none_left : s.queue ≡ [] → still_to_come d l.entries s ≡ []
   none_left none =
-      ap (λ q. left d l.entries (with_queue q)) none ∙ left-none d l s.span well search.span s.costs
+      ap (λ q. still_to_come d l.entries (with_queue q)) none ∙ still_to_come-none d l s.span well search.span s.costs
 
   given_some : (e : Ending) → IsFirstOf s.queue e → IsPermutation s.queue (e ∷ new.queue) → new.span ≡ s.span → new.costs ≡ s.costs → Given (Some (found_from e))
   given_some e first taken span costs = record {
@@ -186,7 +186,7 @@ module _ (d : DataLists) (l : Lattice) (s new : Search) (well : IsWellFormed d l
       once = λ path joined. (let a = sum_taken (λ x. tally (ends_so path x)) s.queue e new.queue taken in let b = search.once path joined in omega (arith, a, b));
     });
     found_is = sym (ap (first_found d l.entries s.span) ways ∙ ap (λ c. Some (record { path = reverse e.ordinals; cost = c })) (sym (cost_is d l s.span well search.span e tail whole)));
-    rest_is = ap (left d l.entries) (new_is span costs) ∙ ap (drop 1) (sym ways);
+    rest_is = ap (still_to_come d l.entries) (new_is span costs) ∙ ap (drop 1) (sym ways);
   }
     where
       tail : IsTail d l.entries s.span e
@@ -197,9 +197,9 @@ module _ (d : DataLists) (l : Lattice) (s new : Search) (well : IsWellFormed d l
       whole =
           whole_first l.entries s.span e (sym (is_open-first l.entries s.span s.queue e first) ∙ closed)
 
-      ways : left d l.entries s ≡ reverse e.ordinals ∷ left d l.entries (with_queue new.queue)
+      ways : still_to_come d l.entries s ≡ reverse e.ordinals ∷ still_to_come d l.entries (with_queue new.queue)
       ways =
-          left-taken d l s.span well search.span e tail whole s.costs s.queue new.queue search first taken
+          still_to_come-taken d l s.span well search.span e tail whole s.costs s.queue new.queue search first taken
 
   pub given : (found : Option Found) → Gives s new found → Given found
   given None gives =
@@ -208,11 +208,29 @@ module _ (d : DataLists) (l : Lattice) (s new : Search) (well : IsWellFormed d l
       record {
         search_is = subst (λ t. IsSearch d l t) (sym kept) search;
         found_is = sym (ap (first_found d l.entries s.span) nothing);
-        rest_is = ap (left d l.entries) kept ∙ (nothing ∙ sym (ap (drop 1) nothing));
+        rest_is = ap (still_to_come d l.entries) kept ∙ (nothing ∙ sym (ap (drop 1) nothing));
       }
   given (Some found) gives =
       let r = gives.some in
       subst (λ f. Given (Some f)) (sym r.3) (given_some r.0 r.1 r.2 gives.span gives.costs)
+
+  -- the same where the room was there, or nothing changed
+  pub record Taken (r : Result (Option Found) NoMemory) : Type 0 where
+    pub search_is : IsSearch d l new
+    pub found_is : IfOk r (λ found. found ≡ first_found d l.entries s.span (still_to_come d l.entries s))
+    pub rest_is : OnOk r (still_to_come d l.entries new ≡ drop 1 (still_to_come d l.entries s))
+    pub err_is : OnErr r (still_to_come d l.entries new ≡ still_to_come d l.entries s)
+
+  pub taken : (r : Result (Option Found) NoMemory) → IfOk r (λ found. Gives s new found) → OnErr r (new ≡ s) → Taken r
+  taken (Ok found) gives kept =
+      let g = given found gives in
+      record { search_is = g.search_is; found_is = g.found_is; rest_is = g.rest_is; err_is = tt }
+  taken (Err _) gives kept = record {
+    search_is = subst (λ t. IsSearch d l t) (sym kept) search;
+    found_is = tt;
+    rest_is = tt;
+    err_is = ap (still_to_come d l.entries) kept;
+  }
 
 -- ---- The first tail of a search
 
@@ -220,20 +238,20 @@ pub first_tail_of : (d : DataLists) (l : Lattice) (s : Search) (e : Ending) → 
 first_tail_of d l s e search first =
     subst (λ x. IsTail d l.entries s.span x) first.stands (search.tails 0 no_ending first.some)
 
-pub AreLonger-from : (d : DataLists) (l : Lattice) (s : Search) (e : Ending) (join : Join) (tails : List Ending) → IsFirstOf s.queue e → IsJoin d l.entries s.span e.ordinals join → tails ≡ longer_tails d l s.span s.costs e.ordinals join → AreLonger d l s tails
+pub AreLonger-from : (d : DataLists) (l : Lattice) (s : Search) (e : Ending) (join : Join) (tails : List Ending) → IsFirstOf s.queue e → IsJoin d l.entries s.span e.ordinals join → IsPermutation (longer_tails d l s.span s.costs e.ordinals join) tails → AreLonger d l s tails
 AreLonger-from d l s e join tails first joins are = record {
   join = join;
   joins = subst (λ (x : Ending). IsJoin d l.entries s.span x.ordinals join) (sym first.stands) joins;
-  are = are ∙ ap (λ (x : Ending). longer_tails d l s.span s.costs x.ordinals join) (sym first.stands);
+  are = subst (λ (x : Ending). IsPermutation (longer_tails d l s.span s.costs x.ordinals join) tails) (sym first.stands) are;
 }
 
 pub rest_same : (costs other : List ℤ) (es those : List Entry) (e : Ending) → costs ≡ other → es ≡ those → ((e.estimate -ℤ slice_index_or costs (first_of e.ordinals) (pos 0)) +ℤ (entry es (first_of e.ordinals)).cost) ≡ ((e.estimate -ℤ slice_index_or other (first_of e.ordinals) (pos 0)) +ℤ (entry those (first_of e.ordinals)).cost)
 rest_same costs other es those e same are =
     ap (λ (x : List ℤ). (e.estimate -ℤ slice_index_or x (first_of e.ordinals) (pos 0)) +ℤ (entry es (first_of e.ordinals)).cost) same ∙ ap (λ (x : List Entry). (e.estimate -ℤ slice_index_or other (first_of e.ordinals) (pos 0)) +ℤ (entry x (first_of e.ordinals)).cost) are
 
-pub IfOk-longer : {T : Type 0} (d : DataLists) (l : Lattice) (s : Search) (e : Ending) (join : Join) (tails : T → List Ending) (costs : List ℤ) (ordinals : List ℕ) (r : Result T NoMemory) → IsFirstOf s.queue e → IsJoin d l.entries s.span e.ordinals join → costs ≡ s.costs → ordinals ≡ e.ordinals → IfOk r (λ t. tails t ≡ longer_tails d l s.span costs ordinals join) → IfOk r (λ t. AreLonger d l s (tails t))
+pub IfOk-longer : {T : Type 0} (d : DataLists) (l : Lattice) (s : Search) (e : Ending) (join : Join) (tails : T → List Ending) (costs : List ℤ) (ordinals : List ℕ) (r : Result T NoMemory) → IsFirstOf s.queue e → IsJoin d l.entries s.span e.ordinals join → costs ≡ s.costs → ordinals ≡ e.ordinals → IfOk r (λ t. IsPermutation (longer_tails d l s.span costs ordinals join) (tails t)) → IfOk r (λ t. AreLonger d l s (tails t))
 IfOk-longer d l s e join tails costs ordinals (Ok t) leads joins same those are =
-    AreLonger-from d l s e join (tails t) leads joins (are ∙ (ap (λ x. longer_tails d l s.span x ordinals join) same ∙ ap (λ x. longer_tails d l s.span s.costs x join) those))
+    AreLonger-from d l s e join (tails t) leads joins (subst (λ x. IsPermutation (longer_tails d l s.span s.costs x join) (tails t)) those (subst (λ x. IsPermutation (longer_tails d l s.span x ordinals join) (tails t)) same are))
 IfOk-longer d l s e join tails costs ordinals (Err _) leads joins same those are = tt
 
 pub AreCosts-made : (d : DataLists) (l : Lattice) (span : Span) → AreDataSound d → IsWellFormed d l → IsSpan d l span → (potentials : List ℤ) → AreLeastCosts d l.entries span potentials → (es : List Entry) (given_costs made : List ℤ) → es ≡ l.entries → given_costs ≡ potentials → made ≡ by_ordinal (λ o. is_in span (entry es o)) (range_with_len 0 (length es)) given_costs 0 → AreCosts d l.entries span made

@@ -19,7 +19,7 @@ use Rattle.conversion_meaning.proofs.CostBounds.{IsWithin-path_cost}
 use Rattle.conversion_meaning.proofs.InOrderLemmas.{from_paths_in_order}
 use Rattle.conversion_meaning.proofs.Lists.{Among, from_filter}
 use Rattle.nbest.specs.Kept.{is_new}
-use Rattle.nbest.specs.Searches.{Search, ends_so, first_found, found_of, left}
+use Rattle.nbest.specs.Searches.{Search, ends_so, first_found, found_of, still_to_come}
 use Rattle.nbest.specs.declared.found.Found.{Found}
 use Rattle.nbest.proofs.SearchLemmas.{filter-same}
 
@@ -162,8 +162,8 @@ module _ (d : DataLists) (rows : List UserRow) (l : Lattice) (span : Span) where
   found_none [] h = refl
   found_none (path ∷ paths) h = absurd (let clash : None ≡ Some (found_of d l.entries span path) = h in cc)
 
-  from_left : (s : Search) (path : List ℕ) → s.span ≡ span → Among path (left d l.entries s) → IsPathOver l.entries span path
-  unfolding left
+  from_left : (s : Search) (path : List ℕ) → s.span ≡ span → Among path (still_to_come d l.entries s) → IsPathOver l.entries span path
+  unfolding still_to_come
   from_left s path same h =
       from_paths_in_order d l.entries span path (subst (λ x. Among path (paths_in_order d l.entries x)) same (from_filter (λ p. list_any (ends_so p) s.queue) path (paths_in_order d l.entries s.span) h).0)
 
@@ -174,9 +174,9 @@ module _ (d : DataLists) (rows : List UserRow) (l : Lattice) (span : Span) where
       inside_path (entry l.entries o).end to path joined.2 k e (omega (arith, low))
 
   -- the path that was found has ordinals of entries
-  pub found_inside : (s : Search) (f : Found) → s.span ≡ span → Some f ≡ first_found d l.entries span (left d l.entries s) → All (λ o. o < length l.entries) f.path
+  pub found_inside : (s : Search) (f : Found) → s.span ≡ span → Some f ≡ first_found d l.entries span (still_to_come d l.entries s) → All (λ o. o < length l.entries) f.path
   found_inside s f same h =
-      let r = found_path (left d l.entries s) f h in
+      let r = found_path (still_to_come d l.entries s) f h in
       let joined = from_left s r.0 same (subst (λ ps. Among r.0 ps) (sym r.1) (inl refl)) in
       subst (λ (x : Found). All (λ o. o < length l.entries) x.path) (sym r.2) (inside_path span.begin span.end r.0 joined)
 
@@ -189,8 +189,8 @@ module _ (d : DataLists) (rows : List UserRow) (l : Lattice) (span : Span) where
       added ∙ (ap (λ t. values ++ cond (is_new values t) (record { value = t; cost = Some cost } ∷ []) []) text_is ∙ ap (λ x. values ++ cond (is_new values (path_value d rows l.key l.entries path)) (record { value = path_value d rows l.key l.entries path; cost = Some x } ∷ []) []) cost_is)
 
   -- the cost of what was found fits
-  pub found_within : AreDataSound d → IsWellFormed d l → IsSpan d l span → (s : Search) (f : Found) → s.span ≡ span → Some f ≡ first_found d l.entries span (left d l.entries s) → IsWithin (most_path (span.end - span.begin)) f.cost
+  pub found_within : AreDataSound d → IsWellFormed d l → IsSpan d l span → (s : Search) (f : Found) → s.span ≡ span → Some f ≡ first_found d l.entries span (still_to_come d l.entries s) → IsWithin (most_path (span.end - span.begin)) f.cost
   found_within sound well is s f same h =
-      let r = found_path (left d l.entries s) f h in
+      let r = found_path (still_to_come d l.entries s) f h in
       let joined = from_left s r.0 same (subst (λ ps. Among r.0 ps) (sym r.1) (inl refl)) in
       subst (λ (x : Found). IsWithin (most_path (span.end - span.begin)) x.cost) (sym r.2) (IsWithin-path_cost d l span r.0 sound well is joined)

@@ -14,7 +14,8 @@ use Rattle.conversion_meaning.specs.Paths.{IsPathOver, IsSpan, path_cost}
 use Rattle.conversion_meaning.specs.Potentials.{IsLeastCost, is_in}
 use Rattle.viterbi.specs.Back.{IsWayBack, cost_back}
 use Rattle.viterbi.specs.Table.{most_reached}
-use Rattle.nbest.specs.Tails.{Ending, IsFirstOf, no_ending}
+use Rattle.nbest.specs.Tails.{Ending, IsFirstOf, begun_by, no_ending}
+use Rattle.nbest.specs.declared.tail.Sibling.{Sibling}
 use Rattle.nbest.specs.declared.join.Join.{Join}
 use Rattle.nbest.specs.declared.found.Found.{Found}
 
@@ -37,8 +38,8 @@ abbrev pub ends_so : List ℕ → Ending → Bool
 ends_so path e = is_front e.ordinals (reverse path)
 
 -- The paths that are still to come, in order: those of which a tail is in the queue.
-unfoldable pub left : DataLists → List Entry → Search → List (List ℕ)
-left d es s = filter (λ path. list_any (ends_so path) s.queue) (paths_in_order d es s.span)
+unfoldable pub still_to_come : DataLists → List Entry → Search → List (List ℕ)
+still_to_come d es s = filter (λ path. list_any (ends_so path) s.queue) (paths_in_order d es s.span)
 
 -- a path that was found, with its cost
 abbrev pub found_of : DataLists → List Entry → Span → List ℕ → Found
@@ -114,15 +115,28 @@ pub record IsJoin (d : DataLists) (es : List Entry) (span : Span) (tail : List �
   pub lid_is : join.lid ≡ lid_of es span.right tail
   pub rest_is : join.rest ≡ rest_of d es span.right tail
 
+-- where an entry ends
+abbrev pub end_of : List Entry → ℕ → ℕ
+end_of es o = (entry es o).end
+
 -- the entries of the span that end where a tail begins
 abbrev pub ordinals_to : List Entry → List ℕ → Span → ℕ → List ℕ
 ordinals_to es by_end span here =
     filter (λ o. ((entry es o).end == here) && nat_le span.begin (entry es o).begin) by_end
 
+-- an entry that a tail can be longer by, and the estimate of the longer tail
+abbrev pub sibling : DataLists → List Entry → List ℤ → Join → ℕ → Sibling
+sibling d es costs join o =
+    record { estimate = (slice_index_or costs o (pos 0) +ℤ connection d (entry es o).rid join.lid) +ℤ join.rest; ordinal = o }
+
+-- all of them, in the order of ends
+abbrev pub siblings : DataLists → Lattice → Span → List ℤ → Join → List Sibling
+siblings d l span costs join =
+    map (sibling d l.entries costs join) (ordinals_to l.entries l.by_end span join.begin)
+
 -- a tail with one entry more
 abbrev pub with_entry : DataLists → List Entry → List ℤ → List ℕ → Join → ℕ → Ending
-with_entry d es costs tail join o =
-    record { estimate = (slice_index_or costs o (pos 0) +ℤ connection d (entry es o).rid join.lid) +ℤ join.rest; ordinals = tail ++ o ∷ [] }
+with_entry d es costs tail join o = begun_by tail (sibling d es costs join o)
 
 -- the tails that are longer by one entry
 abbrev pub longer_tails : DataLists → Lattice → Span → List ℤ → List ℕ → Join → List Ending
@@ -133,7 +147,7 @@ longer_tails d l span costs tail join =
 pub record AreLonger (d : DataLists) (l : Lattice) (s : Search) (tails : List Ending) : Type 0 where
   pub join : Join
   pub joins : IsJoin d l.entries s.span (slice_index_or s.queue 0 no_ending).ordinals join
-  pub are : tails ≡ longer_tails d l s.span s.costs (slice_index_or s.queue 0 no_ending).ordinals join
+  pub are : IsPermutation (longer_tails d l s.span s.costs (slice_index_or s.queue 0 no_ending).ordinals join) tails
 
 -- a tail has an entry, and only such as there are
 pub record AreThere (es : List Entry) (ordinals : List ℕ) : Type 0 where

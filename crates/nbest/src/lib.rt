@@ -9,8 +9,6 @@ mod join;
 mod queue;
 mod search;
 mod tail;
-#[cfg(test)]
-mod tests;
 mod values;
 
 pub use found::Found;

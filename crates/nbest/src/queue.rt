@@ -1,70 +1,92 @@
-ghost use Rattle.std.specs.Prelude.{◌≡◌, ℕ, ◌<◌, List, [], ◌∷◌, ◌++◌, map, length, IfOk, IfSome, IfNone, OnErr, OnOk, slice_index_or};
+ghost use Rattle.std.specs.Prelude.{◌≡◌, ℕ, ◌<◌, ◌≤◌, List, [], length, IfOk, IfSome, IfNone, OnErr, OnOk};
+ghost use Rattle.std.specs.BinaryHeap.{heap_capacity, heap_items, heap_len};
 ghost use Rattle.std.specs.List.Sorted.{IsPermutation};
-ghost use Rattle.nbest.specs.Tails.{ending_of, IsFirstOf, Replaces, endings_of};
+ghost use Rattle.nbest.specs.Tails.{IsFamily, IsFirstOf, IsQueue, LosesFirst, Replaces, ending, families, family_of};
 
-use crate::tail::Tail;
+use crate::tail::{Tail, next_sibling};
 use mz_base::NoMemory;
 use std::alloc::Global;
 use std::cmp::Reverse;
 use std::collections::BinaryHeap;
 use std::marker::Model;
 
-/// Tails that a search has not looked at, the first in their order at hand.
+/// Tails that a search has not looked at, the first in their order at hand. A tail stands in the heap for its siblings
+/// too: the next of them takes its place when it leaves.
 #[derive(Drop)]
 pub struct Queue {
     heap: BinaryHeap<Reverse<Tail>>,
 }
 
 impl Model for Queue {
-    ghost use Rattle.std.specs.Prelude.{List, map};
-    ghost use Rattle.std.specs.BinaryHeap.{IsHeap, heap_items};
-    ghost use Rattle.nbest.specs.Tails.{Ending, ending_of, compared};
+    ghost use Rattle.std.specs.Prelude.{List};
+    ghost use Rattle.std.specs.BinaryHeap.{heap_items};
+    ghost use Rattle.nbest.specs.Tails.{Ending, IsQueue, families};
 
     ghost Value = { List Ending };
 
-    ghost view = { λ q. map ending_of (heap_items q.heap) };
+    ghost view = { λ q. families (heap_items q.heap) };
 
-    ghost invariant = { λ q. IsHeap compared (heap_items q.heap) };
+    ghost invariant = { λ q. IsQueue (heap_items q.heap) };
 }
 
 impl Queue {
-    /// A queue of these tails.
-    pub fn of(tails: Vec<Reverse<Tail>>) -> Queue
-        ensures { IsPermutation (endings_of tails) result }
+    /// A queue of a tail and its siblings.
+    pub fn of(alloc: Global, tail: Option<Tail>) -> Result<Queue, NoMemory>
+        requires family { IfSome tail IsFamily }
+        ensures { IfOk result (λ queue. IsPermutation (family_of tail) queue) }
     {
-        Queue {
-            heap: BinaryHeap::from(tails),
+        let mut heap = BinaryHeap::new(alloc);
+        if let Some(tail) = tail {
+            heap.push(Reverse(tail))?;
         }
+        Ok(Queue { heap })
     }
 
     /// The first tail.
     pub fn first(&self) -> Option<&Reverse<Tail>>
         ensures none { IfNone result (self.now ≡ []) }
-        ensures first { IfSome result (λ tail. IsFirstOf self.now (ending_of tail.now)) }
+        ensures first { IfSome result (λ tail. IsFirstOf self.now (ending tail.now.0)) }
     {
         self.heap.peek()
     }
 
     /// Takes the first tail out.
-    pub fn take(&mut self) -> Option<Reverse<Tail>>
-        ensures none { IfNone result (self.old ≡ []) }
-        ensures first { IfSome result (λ tail. IsFirstOf self.old (ending_of tail)) }
-        ensures rest { IfSome result (λ tail. IsPermutation self.old (ending_of tail ∷ self.new)) }
-        ensures unchanged { IfNone result (self.new ≡ self.old) }
+    pub fn drop_first(&mut self)
+        requires some { 0 < length self.old }
+        ensures { LosesFirst self.old self.new }
     {
-        self.heap.pop()
+        pass_first(&mut self.heap);
     }
 
-    /// Puts these tails in the place of the first one. Room is made before anything changes.
-    pub fn replace_first(&mut self, tails: Vec<Reverse<Tail>>) -> Result<(), NoMemory>
+    /// Puts a tail and its siblings in the place of the first tail. Room is made before anything changes.
+    pub fn replace_first(&mut self, tail: Option<Tail>) -> Result<(), NoMemory>
         requires some { 0 < length self.old }
-        ensures ok { OnOk result (Replaces self.old (endings_of tails) self.new) }
+        requires family { IfSome tail IsFamily }
+        ensures ok { OnOk result (Replaces self.old (family_of tail) self.new) }
         ensures err { OnErr result (self.new ≡ self.old) }
     {
-        let mut others = BinaryHeap::from(tails);
-        self.heap.reserve(others.len())?;
-        let _first = self.heap.pop();
-        self.heap.append(&mut others)?;
+        self.heap.reserve(1)?;
+        pass_first(&mut self.heap);
+        if let Some(tail) = tail {
+            self.heap.push(Reverse(tail))?;
+        }
         Ok(())
+    }
+}
+
+/// Takes the first tail out of a heap, and puts its next sibling in, for which there is room.
+fn pass_first(heap: &mut BinaryHeap<Reverse<Tail>>)
+    requires some { 0 < heap_len heap.old }
+    requires queue { IsQueue (heap_items heap.old) }
+    ensures queue { IsQueue (heap_items heap.new) }
+    ensures rest { LosesFirst (families (heap_items heap.old)) (families (heap_items heap.new)) }
+    ensures len { heap_len heap.new ≤ heap_len heap.old }
+    ensures capacity { heap_capacity heap.old ≤ heap_capacity heap.new }
+{
+    let Some(Reverse(tail)) = heap.pop() else {
+        unreachable!();
+    };
+    if let Some(next) = next_sibling(tail) {
+        let _pushed = heap.push(Reverse(next));
     }
 }

@@ -1,21 +1,20 @@
-ghost use Rattle.std.specs.Prelude.{◌≡◌, ◌<◌, true, All, IfOk, OnErr, OnOk, drop, length, reverse};
+ghost use Rattle.std.specs.Prelude.{◌≡◌, ◌<◌, true, All, IfOk, IfSome, OnErr, OnOk, drop, length, reverse};
 ghost use Rattle.conversion_meaning.specs.InOrder.{paths_in_order};
 ghost use Rattle.conversion_meaning.specs.Lattices.{IsWellFormed};
 ghost use Rattle.conversion_meaning.specs.Paths.{IsSpan};
 ghost use Rattle.conversion_meaning.specs.Potentials.{AreLeastCosts};
-ghost use Rattle.nbest.specs.Searches.{AreLonger, AreThere, Gives, IsSearch, first_found, is_open, left};
-ghost use Rattle.nbest.specs.Tails.{Ending, endings_of};
+ghost use Rattle.nbest.specs.Searches.{AreLonger, AreThere, Gives, IsSearch, first_found, is_open, still_to_come};
+ghost use Rattle.nbest.specs.Tails.{Ending, IsFamily, family_of};
 ghost use Rattle.nbest.specs.Weights.{weight};
 
 use crate::costs::costs_by_ordinal;
 use crate::found::Found;
-use crate::grow::longer_tails;
+use crate::grow::longer_tail;
 use crate::join::{Join, begin_of, join_of};
 use crate::queue::Queue;
 use crate::tail::Tail;
 use mz_base::{Certificate, DataSet, Entry, Lattice, NoMemory, Seq, Span};
 use std::alloc::Global;
-use std::cmp::Reverse;
 use std::marker::Model;
 
 /// A search for all paths over a span of a lattice, in order.
@@ -51,7 +50,7 @@ impl NBest {
         ensures span { IfOk result (λ s. s.span ≡ span.now) }
 
         // All paths are still to come.
-        ensures all { IfOk result (λ s. left (D.lists set.now) lattice.now.entries s ≡ paths_in_order (D.lists set.now) lattice.now.entries span.now) }
+        ensures all { IfOk result (λ s. still_to_come (D.lists set.now) lattice.now.entries s ≡ paths_in_order (D.lists set.now) lattice.now.entries span.now) }
     {
         let entries = lattice.entries.as_slice();
         let costs = costs_by_ordinal(alloc, entries, span, solved.potentials.as_slice())?;
@@ -60,12 +59,12 @@ impl NBest {
             lid: span.right,
             rest: 0,
         };
-        let last = longer_tails(alloc, set, lattice, span, costs.as_slice(), &[], &end)?;
+        let last = longer_tail(alloc, set, lattice, span, costs.as_slice(), &[], &end)?;
         Ok(NBest {
             alloc,
             span: *span,
             costs,
-            queue: Queue::of(last),
+            queue: Queue::of(alloc, last)?,
         })
     }
 
@@ -79,11 +78,11 @@ impl NBest {
         requires search { IsSearch (D.lists set.now) lattice.now self.old }
 
         // It is the first of those that were still to come, and the rest remain.
-        ensures found { IfOk result (λ found. found ≡ first_found (D.lists set.now) lattice.now.entries self.old.span (left (D.lists set.now) lattice.now.entries self.old)) }
-        ensures rest { OnOk result (left (D.lists set.now) lattice.now.entries self.new ≡ drop 1 (left (D.lists set.now) lattice.now.entries self.old)) }
+        ensures found { IfOk result (λ found. found ≡ first_found (D.lists set.now) lattice.now.entries self.old.span (still_to_come (D.lists set.now) lattice.now.entries self.old)) }
+        ensures rest { OnOk result (still_to_come (D.lists set.now) lattice.now.entries self.new ≡ drop 1 (still_to_come (D.lists set.now) lattice.now.entries self.old)) }
 
         // Without memory no path is lost.
-        ensures err { OnErr result (left (D.lists set.now) lattice.now.entries self.new ≡ left (D.lists set.now) lattice.now.entries self.old) }
+        ensures err { OnErr result (still_to_come (D.lists set.now) lattice.now.entries self.new ≡ still_to_come (D.lists set.now) lattice.now.entries self.old) }
 
         // The search goes on in the same set and lattice.
         ensures search { IsSearch (D.lists set.now) lattice.now self.new }
@@ -92,7 +91,7 @@ impl NBest {
         while self.is_open(lattice.entries.as_slice()) {
             self.lengthen(set, lattice)?;
         }
-        Ok(self.take())
+        self.take()
     }
 
     /// Whether the first tail lacks entries.
@@ -106,13 +105,13 @@ impl NBest {
         }
     }
 
-    /// Puts the tails that are longer by one entry in the place of the first one.
+    /// Puts the tails that are longer by one entry in the place of the first one: the first of them, with its siblings.
     fn lengthen<D: DataSet>(&mut self, set: &D, lattice: &Lattice) -> Result<(), NoMemory>
         requires well { IsWellFormed (D.lists set.now) lattice.now }
         requires search { IsSearch (D.lists set.now) lattice.now self.old }
         requires open { is_open lattice.now.entries self.old.span self.old.queue ≡ true }
         ensures search { IsSearch (D.lists set.now) lattice.now self.new }
-        ensures left { left (D.lists set.now) lattice.now.entries self.new ≡ left (D.lists set.now) lattice.now.entries self.old }
+        ensures same { still_to_come (D.lists set.now) lattice.now.entries self.new ≡ still_to_come (D.lists set.now) lattice.now.entries self.old }
         ensures span { self.new.span ≡ self.old.span }
         ensures less { OnOk result (weight lattice.now self.new.span self.new.queue < weight lattice.now self.old.span self.old.queue) }
     {
@@ -125,11 +124,12 @@ impl NBest {
         &self,
         set: &D,
         lattice: &Lattice,
-    ) -> Result<Vec<Reverse<Tail>>, NoMemory>
+    ) -> Result<Option<Tail>, NoMemory>
         requires well { IsWellFormed (D.lists set.now) lattice.now }
         requires search { IsSearch (D.lists set.now) lattice.now self.now }
         requires some { 0 < length self.now.queue }
-        ensures { IfOk result (λ tails. AreLonger (D.lists set.now) lattice.now self.now (endings_of tails)) }
+        ensures family { IfOk result (λ longer. IfSome longer IsFamily) }
+        ensures longer { IfOk result (λ longer. AreLonger (D.lists set.now) lattice.now self.now (family_of longer)) }
     {
         let Some(first) = self.queue.first() else {
             unreachable!();
@@ -137,7 +137,7 @@ impl NBest {
         let tail = &first.0;
         let costs = self.costs.as_slice();
         let join = join_of(lattice.entries.as_slice(), costs, tail);
-        longer_tails(
+        longer_tail(
             self.alloc,
             set,
             lattice,
@@ -148,15 +148,26 @@ impl NBest {
         )
     }
 
-    /// Takes the first tail as a path.
-    fn take(&mut self) -> Option<Found>
-        ensures { Gives self.old self.new result }
+    /// Takes the first tail as a path. Room is made before anything changes.
+    fn take(&mut self) -> Result<Option<Found>, NoMemory>
+        ensures ok { IfOk result (λ found. Gives self.old self.new found) }
+        ensures err { OnErr result (self.new ≡ self.old) }
     {
-        let Reverse(tail) = self.queue.take()?;
-        Some(Found {
-            path: Seq::from_vec(reversed(tail.ordinals)),
-            cost: tail.estimate,
-        })
+        let Some(first) = self.queue.first() else {
+            return Ok(None);
+        };
+        let Tail {
+            estimate,
+            ordinals,
+            ..
+        } = &first.0;
+        let cost = *estimate;
+        let path = reversed(Vec::from_slice(self.alloc, ordinals.as_slice())?);
+        self.queue.drop_first();
+        Ok(Some(Found {
+            path: Seq::from_vec(path),
+            cost,
+        }))
     }
 }
 

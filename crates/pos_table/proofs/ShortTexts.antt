@@ -1,6 +1,6 @@
 -- The texts of the smaller files are within the bytes of a field.
-use Rattle.std.proofs.Common.{◌≡◌, ℕ, zero, suc, ◌+◌, ◌<◌, ℤ, Bool, true, false, not, ◌||◌, eqb, nat_lt, nat_le, List, [], ◌∷◌, Option, Some, None, Result, Ok, Err, length, drop, get_or, option_to_list, refl, arith, inl, inr, subst}
-use Rattle.std.specs.List.{All, AllByRecursion, after_first, filter_map, find, position_or_len, range_with_len}
+use Rattle.std.proofs.Common.{◌≡◌, ℕ, zero, suc, ◌+◌, ◌<◌, ℤ, Bool, true, false, not, ◌||◌, eqb, nat_lt, nat_le, List, [], ◌∷◌, Option, Some, None, Ok, Err, length, drop, get_or, option_to_list, refl, arith, inl, inr, subst}
+use Rattle.std.specs.List.{All, AllByRecursion, filter_map, find, position_or_len, range_with_len}
 use Rattle.std.specs.Str.{chars, is_utf8, IsUtf8}
 use Rattle.std.proofs.lemmas.Bool.{cases_Bool, ltb-true}
 use Rattle.std.proofs.lemmas.Bool.Decides.{nat_tests}
@@ -19,7 +19,6 @@ use Rattle.mz_base.specs.Rows.{rows_after, table_rows}
 use Rattle.mz_base.specs.declared.data.IdRow.{IdRow}
 use Rattle.mz_base.specs.declared.data.PosRow.{PosRow}
 use Rattle.mz_base.specs.declared.data.ValueRow.{ValueRow}
-use Rattle.mz_base.specs.declared.fault.FaultKind.{FaultKind}
 use Rattle.mz_base.specs.declared.fault.FaultKind.TheVariants.{NotUtf8, Empty, Range, Limit}
 use Rattle.mz_base.proofs.AnswerLemmas.{part_gave}
 use Rattle.mz_base.proofs.ByNameLemmas.{latest-All, latest_by_name-same}

@@ -28,7 +28,7 @@ impl Groups {
         };
         for row in rows {
             let reading = Vec::from_slice(alloc, row.reading.as_chars())?;
-            let value = Text::from_chars(alloc, row.value.as_chars())?;
+            let value = row.value.copy(alloc)?;
             groups.add(alloc, reading, value)?;
         }
         Ok(groups)

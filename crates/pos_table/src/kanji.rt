@@ -78,7 +78,7 @@ fn add_kanji(alloc: Global, single: &mut Vec<ValueRow>, row: &ValueRow) -> Resul
 {
     for letter in row.value.as_chars() {
         single.push(ValueRow {
-            reading: Text::from_chars(alloc, row.reading.as_chars())?,
+            reading: row.reading.copy(alloc)?,
             value: Text::from_chars(alloc, &[*letter])?,
         })?;
     }

@@ -1,4 +1,4 @@
-ghost use Rattle.std.specs.Prelude.{◌≡◌, ◌≢◌, ◌↔◌, ◌<◌, ◌≤◌, ℕ, List, Some, None, Ok};
+ghost use Rattle.std.specs.Prelude.{◌≡◌, ◌≢◌, ◌↔◌, ◌<◌, ◌≤◌, ℕ, pos, List, Some, None, Ok};
 ghost use Rattle.std.specs.List.{All, Contains};
 ghost use Rattle.std.specs.List.Sorted.{IsPermutation};
 ghost use Rattle.mz_base.specs.ByName.{RiseByName};
@@ -14,6 +14,15 @@ ghost use Rattle.pos_table.specs.Ids.{RiseById, id_rows};
 ghost use Rattle.pos_table.specs.Joins.{join_rows};
 ghost use Rattle.pos_table.specs.Nodes.{AreIds, AreNodes, ArePosNodes};
 ghost use Rattle.pos_table.specs.UserPos.{id_of, name_of, pos_in, pos_rows, same_pos};
+
+use crate::unknown::{UNKNOWN_COST, UNKNOWN_ID};
+
+/// What an unknown word costs and its id, where the file has no row of its class. Definitions cite the constants, so a wrong
+/// one would move them along.
+pub fn limits_are()
+    ensures id { UNKNOWN_ID ≡ 0 }
+    ensures cost { UNKNOWN_COST ≡ pos 10000 }
+{}
 
 /// The rows that a file of unknown words gives are within their limits.
 pub fn unknown_rows_are_nodes()

@@ -17,12 +17,9 @@ pub use ids::{Ids, read_ids};
 pub use joins::{Joins, read_joins};
 pub use kanji::{Kanji, read_kanji};
 pub use laws::{
-    id_of_is_least, id_rows_are_ids, id_rows_rise, join_rows_are_sound, pos_rows_are_nodes,
-    pos_rows_rise, unknown_rows_are_nodes,
+    id_of_is_least, id_rows_are_ids, id_rows_rise, join_rows_are_sound, limits_are,
+    pos_rows_are_nodes, pos_rows_rise, unknown_rows_are_nodes,
 };
 pub use symbols::{Symbols, read_symbols};
 pub use unknown::{UNKNOWN_COST, UNKNOWN_ID, Unknown, read_unknown};
 pub use user_pos::{UserPos, read_user_pos};
-
-#[cfg(test)]
-mod tests;

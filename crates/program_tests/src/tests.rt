@@ -1,5 +1,5 @@
 use mozc_cli::{Told, ending_of, local, tell};
-use mz_base::Status;
+use mz_base::{Refusal, Status};
 use mz_outside::{MemorySink, MemoryStore, SureSink, SureStore};
 use std::alloc::{AllocError, Global};
 use std::test::Fail;
@@ -151,7 +151,7 @@ fn want_of_memory_is_told(rt: HostRuntime) -> Result<(), Fail> {
     let well = ending_of(&Status::Ok);
     assert!(rt; well.text.is_none());
     assert_eq!(rt; well.number, 0);
-    let ending = ending_of(&Status::Memory);
+    let ending = ending_of(&Status::Refused(Refusal::Memory));
     assert!(rt; ending.text.is_some());
     assert_eq!(rt; ending.number, 1);
     Ok(())

@@ -15,7 +15,7 @@ use Rattle.mz_base.specs.declared.fault.FaultKind.TheVariants.{NotUtf8, Empty, L
 use Rattle.mz_base.proofs.ByNameLemmas.{latest-All}
 use Rattle.mz_base.proofs.SortLemmas.{AllTwo, in_order-All, in_order-AllTwo}
 use Rattle.romaji_table.specs.Inputs.{input_of, latest_by_input, same_input}
-use Rattle.romaji_table.specs.Rows.{RowFields, fields_row, is_skipped, passes_limit, romaji_row, row_fields, rule_of}
+use Rattle.romaji_table.specs.Rows.{RowFields, fields_row, is_comment, passes_limit, romaji_row, row_fields, rule_of}
 
 -- a rule that none repeats differs from each in its input
 differs : (rule : Rule) (rules : List Rule) → list_any (same_input rule) rules ≡ false → AllByRecursion (λ other. other.input ≢ rule.input) rules
@@ -87,7 +87,7 @@ fields-IsRule rows number (Some fields) row given =
 pub row-IsRule : (rows : List Rule) (number : ℕ) (line : List ℕ) (row : Option Rule) → romaji_row rows number line ≡ Ok row → All IsRule (option_to_list row)
 row-IsRule rows number line row given =
     elim (cases_Bool (is_utf8 line)) [
-      | inl text ↦ elim (cases_Bool (is_skipped line)) [
+      | inl text ↦ elim (cases_Bool (is_comment line)) [
         | inl skipped ↦
             let is : Ok None ≡ Ok row = rw (text, skipped) at given in
             let same : None ≡ row = cc in

@@ -1,5 +1,5 @@
 -- The texts of the rules of a file are within the bytes of a field.
-use Rattle.std.proofs.Common.{◌≡◌, ℕ, true, false, Bool, ◌||◌, eqb, nat_le, if◌then◌else◌, List, [], ◌∷◌, Option, Some, None, Result, Ok, Err, length, option_to_list, refl, inl, inr, subst}
+use Rattle.std.proofs.Common.{◌≡◌, ℕ, true, false, Bool, ◌||◌, eqb, nat_le, List, [], ◌∷◌, Option, Some, None, Ok, Err, length, option_to_list, refl, inl, inr, subst}
 use Rattle.std.specs.List.{All, AllByRecursion}
 use Rattle.std.specs.Str.{chars, is_utf8, IsUtf8}
 use Rattle.std.proofs.lemmas.Bool.{cases_Bool}
@@ -9,7 +9,6 @@ use Rattle.std.proofs.lemmas.Str.{IsUtf8-nil}
 use Rattle.mz_base.specs.Data.{IsRuleShort}
 use Rattle.mz_base.specs.Limits.{is_long}
 use Rattle.mz_base.specs.Lines.{fields_of, lines_of}
-use Rattle.mz_base.specs.declared.fault.FaultKind.{FaultKind}
 use Rattle.mz_base.specs.declared.fault.FaultKind.TheVariants.{NotUtf8, Empty, LongPending, Limit}
 use Rattle.mz_base.specs.declared.romaji.Rule.{Rule}
 use Rattle.mz_base.proofs.AnswerLemmas.{part_gave}
@@ -17,7 +16,7 @@ use Rattle.mz_base.proofs.ByNameLemmas.{latest-All, latest_by_name-same}
 use Rattle.mz_base.proofs.RowFacts.{rows_after-All}
 use Rattle.mz_base.proofs.TextFields.{IsShort-field, fields-utf8}
 use Rattle.romaji_table.specs.Inputs.{input_of, latest_by_input, same_input}
-use Rattle.romaji_table.specs.Rows.{RowFields, fields_row, is_skipped, line_rules, passes_limit, romaji_row, romaji_rows, row_fields, rule_of}
+use Rattle.romaji_table.specs.Rows.{RowFields, fields_row, is_comment, line_rules, passes_limit, romaji_row, romaji_rows, row_fields, rule_of}
 
 -- the texts of a row are texts
 abbrev AreTexts : Option RowFields → Type 0
@@ -69,7 +68,7 @@ fields-short rows number (Some row) rule texts given =
 line-short : (rows : List Rule) (number : ℕ) (line : List ℕ) (rule : Option Rule) → romaji_row rows number line ≡ Ok rule → All IsRuleShort (option_to_list rule)
 line-short rows number line rule given =
     elim (cases_Bool (is_utf8 line)) [
-      | inl text ↦ elim (cases_Bool (is_skipped line)) [
+      | inl text ↦ elim (cases_Bool (is_comment line)) [
         | inl skipped ↦
             let here : Ok None ≡ Ok rule = rw (text, skipped) at given in
             let same : None ≡ rule = cc in

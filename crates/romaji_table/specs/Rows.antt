@@ -1,10 +1,10 @@
 -- The rows of a romaji table: docs/FORMATS.md, "Romaji".
-use Rattle.std.specs.Prelude.{ℕ, ◌==◌, ◌&&◌, ◌||◌, Bool, true, not, List, [], ◌∷◌, Option, Some, None, Result, Ok, Err, if◌then◌else◌, length, nat_le}
+use Rattle.std.specs.Prelude.{ℕ, ◌==◌, ◌&&◌, ◌||◌, Bool, not, List, [], ◌∷◌, Option, Some, None, Result, Ok, Err, if◌then◌else◌, length, nat_le}
 use Rattle.std.specs.List.{list_any}
 use Rattle.std.specs.Str.{chars, is_utf8}
 use Rattle.mz_base.specs.Answers.{◌>>=◌}
 use Rattle.mz_base.specs.Limits.{is_long}
-use Rattle.mz_base.specs.Lines.{lines_of, fields_of}
+use Rattle.mz_base.specs.Lines.{lines_of, fields_of, is_skipped}
 use Rattle.mz_base.specs.Rows.{rows_after}
 use Rattle.mz_base.specs.declared.data.TheConstants.{MOST_ROWS}
 use Rattle.mz_base.specs.declared.romaji.Rule.{Rule}
@@ -13,9 +13,8 @@ use Rattle.mz_base.specs.declared.fault.FaultKind.TheVariants.{NotUtf8, Fields, 
 use Rattle.romaji_table.specs.Inputs.{latest_by_input}
 
 -- an empty line, and a line that begins with # and has no tab, give no row
-abbrev pub is_skipped : List ℕ → Bool
-is_skipped [] = true
-is_skipped (first ∷ rest) = (first == 35) && not (list_any (λ b. b == 9) (first ∷ rest))
+abbrev pub is_comment : List ℕ → Bool
+is_comment line = is_skipped line && not (list_any (λ b. b == 9) line)
 
 -- the fields of a row
 pub record RowFields : Type 0 where
@@ -51,7 +50,7 @@ fields_row rows number (Some row) =
 abbrev pub romaji_row : List Rule → ℕ → List ℕ → Result (Option Rule) FaultKind
 romaji_row rows number line =
     if not (is_utf8 line) then Err (NotUtf8 number) else
-    if is_skipped line then Ok None else
+    if is_comment line then Ok None else
     fields_row (length rows) number (row_fields (fields_of line))
 
 -- the row of each line of a file that has one, or the first fault

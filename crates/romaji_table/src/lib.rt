@@ -12,6 +12,3 @@ pub use laws::{law_of_repeats, rows_are_rules, rows_rise};
 pub use reader::read;
 pub use row::RuleReader;
 pub use table::Table;
-
-#[cfg(test)]
-mod tests;

@@ -2,11 +2,11 @@ ghost use Rattle.std.specs.Prelude.{◌≡◌, IfOk, option_map};
 ghost use Rattle.mz_base.specs.Answers.{Gives};
 ghost use Rattle.mz_base.specs.Lines.{pointed};
 ghost use Rattle.romaji_table.specs.Columns.{row_of_columns};
-ghost use Rattle.romaji_table.specs.Rows.{is_skipped, row_fields, rule_of, fields_row, passes_limit};
+ghost use Rattle.romaji_table.specs.Rows.{is_comment, row_fields, rule_of, fields_row, passes_limit};
 
 use mz_base::{
     FaultKind, MOST_ROWS, NoMemory, ReadError, RowReader, Rule, Text, cut_fields, is_long,
-    text_of_line,
+    is_skipped, text_of_line,
 };
 use std::alloc::Global;
 
@@ -31,7 +31,7 @@ impl RowReader for RuleReader {
         let Some(text) = text_of_line(line) else {
             return Err(FaultKind::NotUtf8(number).into());
         };
-        if is_skipped(line) {
+        if is_comment(line) {
             return Ok(None);
         }
         let fields = cut_fields(alloc, text)?;
@@ -39,13 +39,10 @@ impl RowReader for RuleReader {
     }
 }
 
-fn is_skipped(line: &[u8]) -> bool
-    ensures { result ≡ is_skipped line.now }
+fn is_comment(line: &[u8]) -> bool
+    ensures { result ≡ is_comment line.now }
 {
-    match line {
-        [] => true,
-        [first, ..] => *first == b'#' && !line.contains(&b'\t'),
-    }
+    is_skipped(line) && !line.contains(&b'\t')
 }
 
 fn read_fields(

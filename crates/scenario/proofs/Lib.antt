@@ -1,3 +1,6 @@
+mod FieldLemmas
+mod ScriptLaws
+mod SentKeys
 pub mod AnswerSteps
 mod LineLaws
 mod ManifestSteps

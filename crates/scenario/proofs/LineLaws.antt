@@ -1,8 +1,7 @@
 -- A manifest is read line by line, up to the first line that is refused.
-use Rattle.std.proofs.Common.{◌≡◌, ℕ, zero, suc, ◌+◌, ◌<◌, ◌⊎◌, List, [], ◌∷◌, length, take, slice_index_or, Result, Ok, Err, refl, ◌∙◌, ap, arith, inl, inr}
-use Rattle.mz_base.specs.Answers.{◌>>=◌}
-use Rattle.scenario.specs.LineByLine.{IsFirstRefused, IsRead, IsUnfinished, told_after}
-use Rattle.scenario.specs.Manifests.{Told, with_line, finished, manifest_after}
+use Rattle.std.proofs.Common.{◌≡◌, ℕ, zero, suc, ◌+◌, ◌<◌, ◌⊎◌, List, [], ◌∷◌, length, Result, Ok, Err, refl, ◌∙◌, ap, arith, inl, inr}
+use Rattle.scenario.specs.LineByLine.{IsFirstRefused, IsRead, IsUnfinished}
+use Rattle.scenario.specs.Manifests.{Told, with_line, manifest_after}
 use Rattle.scenario.specs.declared.manifest.Manifest.{Manifest}
 use Rattle.scenario.specs.declared.manifest.ManifestError.{ManifestError}
 use Rattle.scenario.proofs.AnswerSteps.{after-Ok}

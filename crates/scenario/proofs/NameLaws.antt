@@ -11,13 +11,13 @@ use Rattle.std.proofs.lemmas.Slice.Eq.{bytes_eq-Decides}
 use Rattle.std.proofs.lemmas.Str.{encodes-chars}
 use Rattle.std.proofs.Math.Seq.{get_or-append_seam}
 use Rattle.mz_base.specs.Data.{is_text}
-use Rattle.mz_base.specs.Lines.{fields_of}
+use Rattle.mz_base.specs.Lines.{fields_of, is_skipped}
 use Rattle.mz_base.specs.declared.fault.Role.{Role}
 use Rattle.mz_base.proofs.TextFields.{fields-utf8}
 use Rattle.scenario.specs.Entries.{name_of, file_of, file_from, dict_of, client_of, loaders_of, has_client, may_have}
 use Rattle.scenario.specs.Names.{is_among, is_name, is_path, new_name, number_among, role_of}
 use Rattle.scenario.specs.Sound.{AreDistinct, IsName, IsNamed, IsPath, IsWithin}
-use Rattle.scenario.specs.Manifests.{Told, nothing_told, or_bad, with_set, with_file, with_user, with_dict, with_client, with_loaders, with_certificates, with_word, with_fields, with_line, manifest_from, is_skipped, have_romaji, finished, manifest_after}
+use Rattle.scenario.specs.Manifests.{Told, nothing_told, or_bad, with_set, with_file, with_user, with_dict, with_client, with_loaders, with_certificates, with_word, with_fields, with_line, manifest_from, have_romaji, finished, manifest_after}
 use Rattle.scenario.specs.declared.manifest.ClientLine.{ClientLine}
 use Rattle.scenario.specs.declared.manifest.DictLine.{DictLine}
 use Rattle.scenario.specs.declared.manifest.FileLine.{FileLine}

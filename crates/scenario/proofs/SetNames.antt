@@ -1,18 +1,16 @@
 -- The sets of a manifest are the names of its `DATASET` lines, in order.
-use Rattle.std.proofs.Common.{◌≡◌, ℕ, ◌+◌, Bool, true, false, not, ◌&&◌, nat_lt, codes, List, [], ◌∷◌, ◌++◌, Some, None, Result, Ok, Err, length, append_assoc, append-nil, refl, sym, ◌∙◌, ap, arith, inl, inr}
+use Rattle.std.proofs.Common.{◌≡◌, ℕ, ◌+◌, true, false, not, ◌&&◌, nat_lt, codes, List, [], ◌∷◌, ◌++◌, Some, Ok, Err, length, append_assoc, append-nil, refl, sym, ◌∙◌, ap, arith, inl, inr}
 use Rattle.std.specs.Prelude.{bytes_eq}
 use Rattle.std.specs.List.{flat_map, onto_first}
 use Rattle.std.specs.Str.{chars, is_utf8}
 use Rattle.std.proofs.lemmas.Bool.{cases_Bool}
 use Rattle.std.proofs.lemmas.Bool.Decides.{nat_tests}
-use Rattle.mz_base.specs.Answers.{◌>>=◌}
-use Rattle.mz_base.specs.Lines.{fields_of}
+use Rattle.mz_base.specs.Lines.{fields_of, is_skipped}
 use Rattle.scenario.specs.Entries.{name_of, file_of, dict_of, client_of, loaders_of}
 use Rattle.scenario.specs.LineByLine.{set_in, set_named}
-use Rattle.scenario.specs.Manifests.{Told, or_bad, with_set, with_file, with_user, with_dict, with_client, with_loaders, with_certificates, with_word, with_fields, with_line, manifest_from, is_skipped, have_romaji, finished, manifest_after}
-use Rattle.scenario.specs.Names.{is_among, is_name, new_name}
+use Rattle.scenario.specs.Manifests.{Told, or_bad, with_set, with_file, with_user, with_dict, with_client, with_loaders, with_certificates, with_word, with_fields, with_line, manifest_from, have_romaji, manifest_after}
+use Rattle.scenario.specs.Names.{is_among, is_name}
 use Rattle.scenario.specs.declared.manifest.Manifest.{Manifest}
-use Rattle.scenario.specs.declared.manifest.ManifestError.{ManifestError}
 use Rattle.scenario.specs.declared.manifest.ManifestError.TheVariants.{Bad}
 use Rattle.scenario.proofs.AnswerSteps.{after-Ok, or_bad-Ok, if-Ok, if-Some, if-made}
 

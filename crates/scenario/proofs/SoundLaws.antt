@@ -6,15 +6,16 @@ use Rattle.std.proofs.lemmas.Bool.{cases_Bool}
 use Rattle.std.proofs.lemmas.Bool.Decides.{nat_tests}
 use Rattle.std.proofs.lemmas.List.Elements.{All-append, All-cons, All-nil, filter-append}
 use Rattle.mz_base.specs.Data.{is_text}
-use Rattle.mz_base.specs.Lines.{fields_of}
+use Rattle.mz_base.specs.Faults.{same_role}
+use Rattle.mz_base.specs.Lines.{fields_of, is_skipped}
 use Rattle.mz_base.specs.Numbers.{number_of}
 use denote.Enum.Bare.{same_true}
 use Rattle.mz_base.specs.contracts.fault.Role.{the_type}
 use Rattle.mz_base.specs.declared.fault.Role.{Role}
 use Rattle.mz_base.specs.declared.fault.Role.TheVariants.{Dictionary, Romaji}
 use Rattle.scenario.specs.Entries.{name_of, file_of, file_from, dict_of, client_of, loaders_of, few_loaders, is_file, has_file, may_have, has_client}
-use Rattle.scenario.specs.Names.{is_name, is_path, number_among, role_of, same_role}
-use Rattle.scenario.specs.Manifests.{Told, nothing_told, or_bad, dicts_of, with_set, with_file, with_user, with_dict, with_client, with_loaders, with_certificates, with_word, with_fields, with_line, manifest_from, is_skipped, have_romaji, finished, manifest_after}
+use Rattle.scenario.specs.Names.{is_name, is_path, number_among, role_of}
+use Rattle.scenario.specs.Manifests.{Told, nothing_told, or_bad, dicts_of, with_set, with_file, with_user, with_dict, with_client, with_loaders, with_certificates, with_word, with_fields, with_line, manifest_from, have_romaji, finished, manifest_after}
 use Rattle.scenario.specs.Sound.{IsOneOf, IsNamed, IsWithinLimits, IsSound}
 use Rattle.scenario.specs.declared.manifest.ClientLine.{ClientLine}
 use Rattle.scenario.specs.declared.manifest.DictLine.{DictLine}

@@ -4,10 +4,11 @@ use Rattle.std.specs.Prelude.{ℕ, ◌==◌, ◌&&◌, ◌||◌, Bool, false, no
 use Rattle.std.specs.List.{list_any}
 use Rattle.std.specs.Str.{chars}
 use Rattle.mz_base.specs.Data.{is_text}
+use Rattle.mz_base.specs.Faults.{same_role}
 use Rattle.mz_base.specs.Numbers.{number_of}
 use Rattle.mz_base.specs.declared.fault.Role.{Role}
 use Rattle.mz_base.specs.declared.fault.Role.TheVariants.{Dictionary}
-use Rattle.scenario.specs.Names.{is_name, is_path, new_name, number_among, role_of, same_role}
+use Rattle.scenario.specs.Names.{is_name, is_path, new_name, number_among, role_of}
 use Rattle.scenario.specs.declared.manifest.ClientLine.{ClientLine}
 use Rattle.scenario.specs.declared.manifest.DictLine.{DictLine}
 use Rattle.scenario.specs.declared.manifest.FileLine.{FileLine}

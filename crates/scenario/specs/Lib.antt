@@ -4,3 +4,6 @@ pub mod ManifestAnswers
 pub mod Manifests
 pub mod Names
 pub mod Sound
+pub mod ScriptAnswers
+pub mod ScriptLines
+pub mod Scripts

@@ -3,7 +3,7 @@ use Rattle.std.specs.Prelude.{◌≡◌, ℕ, ◌+◌, ◌<◌, List, [], ◌∷
 use Rattle.std.specs.Str.{chars}
 use Rattle.mz_base.specs.Answers.{◌>>=◌}
 use Rattle.mz_base.specs.Lines.{fields_of}
-use Rattle.scenario.specs.Manifests.{Told, nothing_told, with_line, finished}
+use Rattle.scenario.specs.Manifests.{Told, with_line, finished}
 use Rattle.scenario.specs.declared.manifest.ManifestError.{ManifestError}
 
 -- what these lines tell after what was told before; the first of them has this number

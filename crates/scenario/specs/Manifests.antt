@@ -1,9 +1,9 @@
 -- A manifest, line by line, and its first line that is bad or too large: docs/FORMATS.md, "Manifest".
-use Rattle.std.specs.Prelude.{ℕ, ◌+◌, ◌==◌, ◌&&◌, ◌||◌, Bool, true, false, not, List, [], ◌∷◌, ◌++◌, filter, Option, Some, None, unwrap_or, Result, Ok, Err, if◌then◌else◌, codes, length, bytes_eq, nat_lt, slice_index}
+use Rattle.std.specs.Prelude.{ℕ, ◌+◌, ◌==◌, ◌&&◌, Bool, true, false, not, List, [], ◌∷◌, ◌++◌, filter, Option, Some, None, unwrap_or, Result, Ok, Err, if◌then◌else◌, codes, length, bytes_eq, nat_lt}
 use Rattle.std.specs.List.{list_all, range_with_len}
 use Rattle.std.specs.Str.{is_utf8}
 use Rattle.mz_base.specs.Answers.{◌>>=◌}
-use Rattle.mz_base.specs.Lines.{fields_of}
+use Rattle.mz_base.specs.Lines.{fields_of, is_skipped}
 use Rattle.mz_base.specs.declared.fault.Role.TheVariants.{Romaji}
 use Rattle.mz_base.specs.declared.status.Limit.TheVariants.{Sets, Users, Clients, Dictionaries}
 use Rattle.scenario.specs.Entries.{name_of, file_of, dict_of, client_of, loaders_of, turns_on, has_file}
@@ -95,10 +95,6 @@ with_word number told word fields =
 abbrev pub with_fields : ℕ → Told → List (List ℕ) → Result Told ManifestError
 with_fields number told [] = Err (Bad number)
 with_fields number told (word ∷ fields) = with_word number told word fields
-
--- an empty line, and a line that begins with #
-abbrev pub is_skipped : List ℕ → Bool
-is_skipped line = length line == 0 || slice_index line 0 == 35
 
 -- a line of any kind; one that is no text is bad, also where it would be skipped
 unfoldable pub with_line : ℕ → Told → List ℕ → Result Told ManifestError

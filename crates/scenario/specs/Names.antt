@@ -2,9 +2,7 @@
 use Rattle.std.specs.Prelude.{ℕ, ◌+◌, ◌&&◌, Bool, not, List, Option, Some, None, option_map, position, if◌then◌else◌, codes, length, bytes_eq, nat_le}
 use Rattle.std.specs.List.{list_any}
 use Rattle.std.specs.Str.{chars}
-use denote.Enum.Bare.{sameb}
 use Rattle.mz_base.specs.Data.{is_text}
-use Rattle.mz_base.specs.contracts.fault.Role.{the_type}
 use Rattle.mz_base.specs.declared.fault.Role.{Role}
 use Rattle.mz_base.specs.declared.fault.Role.TheVariants.{Connection, Id, Unk, Segment, UserPos, Romaji, Dictionary, Symbol, Kanji}
 use Rattle.scenario.specs.declared.names.TheConstants.{MOST_NAME_BYTES, MOST_PATH_BYTES}
@@ -42,7 +40,3 @@ role_of word =
     if bytes_eq word (codes "symbol") then Some Symbol else
     if bytes_eq word (codes "kanji") then Some Kanji else
     None
-
--- two roles are one
-unfoldable pub same_role : Role → Role → Bool
-same_role = sameb the_type

@@ -2,14 +2,14 @@ ghost use Rattle.std.specs.Prelude.{◌≡◌, ◌+◌, ◌≤◌, IfOk, OnOk, l
 ghost use Rattle.mz_base.specs.Lines.{pointed};
 ghost use Rattle.scenario.specs.ManifestAnswers.{Gives};
 ghost use Rattle.scenario.specs.declared.manifest.TheConstants.{MOST_SETS};
-ghost use Rattle.scenario.specs.Manifests.{nothing_told, is_skipped, dicts_of, have_romaji, with_set, with_file, with_user, with_dict, with_client, with_loaders, with_certificates, with_word, with_fields, with_line, manifest_from, finished};
+ghost use Rattle.scenario.specs.Manifests.{nothing_told, dicts_of, have_romaji, with_set, with_file, with_user, with_dict, with_client, with_loaders, with_certificates, with_word, with_fields, with_line, manifest_from, finished};
 
 use crate::entries::{client_of, dict_of, file_of, has_file, loaders_of, name_of, turns_on};
 use crate::manifest::{
     ClientLine, DictLine, FileLine, MOST_CLIENTS, MOST_DICTIONARIES, MOST_SETS, MOST_USERS,
     Manifest, ManifestError,
 };
-use mz_base::{Limit, Role, Seq, Text, cut_fields, text_of_line};
+use mz_base::{Limit, Role, Seq, Text, cut_fields, is_skipped, text_of_line};
 use std::alloc::Global;
 use std::marker::Model;
 
@@ -245,15 +245,6 @@ impl Draft {
         }
         self.certificates = true;
         Ok(())
-    }
-}
-
-fn is_skipped(line: &[u8]) -> bool
-    ensures { result ≡ is_skipped line.now }
-{
-    match line {
-        [] => true,
-        [first, ..] => *first == b'#',
     }
 }
 

@@ -3,8 +3,8 @@ ghost use Rattle.mz_base.specs.Lines.{pointed};
 ghost use Rattle.scenario.specs.Entries.{name_of, is_file, has_file, may_have, file_of, dict_of, has_client, client_of, few_loaders, loaders_of, turns_on};
 
 use crate::manifest::{ClientLine, DictLine, FileLine, MOST_LOADERS};
-use crate::names::{is_name, is_path, new_name, number_among, role_of, same_role};
-use mz_base::{NoMemory, Role, Text, number};
+use crate::names::{is_name, is_path, new_name, number_among, role_of};
+use mz_base::{NoMemory, Role, Text, number, same_role};
 use std::alloc::Global;
 
 /// `DATASET name` and `USER name`.

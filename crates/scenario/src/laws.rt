@@ -11,6 +11,7 @@ ghost use Rattle.scenario.specs.declared.manifest.ManifestError.TheVariants.{NoM
 
 use crate::manifest::{MOST_CLIENTS, MOST_DICTIONARIES, MOST_LOADERS, MOST_SETS, MOST_USERS};
 use crate::names::{MOST_NAME_BYTES, MOST_PATH_BYTES};
+use crate::script::{MOST_COMMANDS, MOST_KEYS, MOST_NUMBER};
 
 /// Each manifest is within its limits, and names only sets and users that it has. Its names are distinct within their
 /// kind; names have 1 to 64 bytes and paths 1 to 1,024.
@@ -23,7 +24,7 @@ pub fn manifests_need_no_memory()
     ensures { (lines : List (List ℕ)) → manifest_of lines ≢ Err NoMemory }
 {}
 
-/// The number of each limit of a manifest. Definitions cite the constants, so a wrong one would move them along.
+/// The number of each limit of a manifest and of a script. Definitions cite the constants, so a wrong one would move them along.
 pub fn limits_are()
     ensures sets { MOST_SETS ≡ 8 }
     ensures users { MOST_USERS ≡ 16 }
@@ -32,6 +33,9 @@ pub fn limits_are()
     ensures loaders { MOST_LOADERS ≡ 4 }
     ensures name_bytes { MOST_NAME_BYTES ≡ 64 }
     ensures path_bytes { MOST_PATH_BYTES ≡ 1024 }
+    ensures commands { MOST_COMMANDS ≡ 100000 }
+    ensures keys { MOST_KEYS ≡ 4096 }
+    ensures number { MOST_NUMBER ≡ 999999999 }
 {}
 
 /// A manifest that reads has each of its lines read, one after the other. One that does not has a first line that is

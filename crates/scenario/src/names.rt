@@ -1,6 +1,6 @@
 ghost use Rattle.std.specs.Prelude.{◌≡◌, ◌≤◌, ◌<◌, ◌^◌, IfOk, IfSome, length, position};
 ghost use Rattle.mz_base.specs.Data.{is_text};
-ghost use Rattle.scenario.specs.Names.{is_name, is_path, is_among, new_name, number_among, role_of, same_role};
+ghost use Rattle.scenario.specs.Names.{is_name, is_path, is_among, new_name, number_among, role_of};
 
 use mz_base::{NoMemory, Role, Text};
 use std::alloc::Global;
@@ -53,7 +53,8 @@ pub fn number_among(alloc: Global, names: &[Text], name: &str) -> Result<Option<
     }
 }
 
-fn place_among(texts: &[Text], text: &[char]) -> Option<usize>
+/// The place of the first of these texts that is this one.
+pub fn place_among(texts: &[Text], text: &[char]) -> Option<usize>
     ensures place { result ≡ position (is_text text.now) texts.now }
     ensures inside { IfSome result (λ place. place < length texts.now) }
 {
@@ -93,11 +94,4 @@ pub fn role_of(word: &str) -> Option<Role>
         return Some(Role::Kanji);
     }
     None
-}
-
-#[tactic(auto, unfolding(crate::specs::Names::same_role))]
-pub fn same_role(role: Role, other: Role) -> bool
-    ensures { result ≡ same_role role other }
-{
-    role == other
 }

@@ -1,5 +1,5 @@
 -- What a whole table says: the best path, its cost, and the least costs.
-use Rattle.std.proofs.Common.{◌≡◌, refl, sym, ap, ◌∙◌, subst, ℕ, suc, ◌+◌, ◌-◌, ◌*◌, ◌<◌, ◌≤◌, Bool, true, false, List, [], ◌∷◌, ◌++◌, Option, Some, None, length, map, arith, append_assoc, append-nil}
+use Rattle.std.proofs.Common.{◌≡◌, refl, sym, ap, ◌∙◌, subst, ℕ, suc, ◌+◌, ◌-◌, ◌<◌, ◌≤◌, Bool, true, false, List, [], ◌∷◌, ◌++◌, Option, Some, None, length, map, arith, append_assoc, append-nil}
 use Rattle.std.specs.Prelude.{ℤ, pos, IfSome, reverse, slice_index, slice_index_or}
 use Rattle.std.specs.List.{filter, range_with_len}
 use Rattle.std.proofs.lemmas.Int.{ints}
@@ -8,7 +8,7 @@ use Rattle.mz_base.specs.Data.{DataLists, AreDataSound}
 use Rattle.mz_base.specs.declared.lattice.Lattice.{Lattice}
 use Rattle.mz_base.specs.declared.lattice.Span.{Span}
 use Rattle.conversion_meaning.specs.Best.{IsBest}
-use Rattle.conversion_meaning.specs.Bounds.{IsWithin, most_step}
+use Rattle.conversion_meaning.specs.Bounds.{IsWithin, most_path}
 use Rattle.conversion_meaning.specs.Certificates.{IsCertificate}
 use Rattle.conversion_meaning.specs.Lattices.{IsWellFormed, entry}
 use Rattle.conversion_meaning.specs.Paths.{IsSpan, path_cost}
@@ -105,9 +105,9 @@ module _ (d : DataLists) (l : Lattice) (span : Span) (table : List Reached) wher
         let h = ap (path_cost d l.entries span) path_is in
         omega (arith, ints, e, f, h)
 
-    pub IsWithin-total : AreDataSound d → IsWellFormed d l → IsSpan d l span → IsWithin (most_step * (span.end - span.begin) + 1000000) r.cost
+    pub IsWithin-total : AreDataSound d → IsWellFormed d l → IsSpan d l span → IsWithin (most_path (span.end - span.begin)) r.cost
     IsWithin-total sound well spans =
-        subst (λ c. IsWithin (most_step * (span.end - span.begin) + 1000000) c) (sym total_is) (IsWithin-path_cost d l span path sound well spans IsBest-reached.joined)
+        subst (λ c. IsWithin (most_path (span.end - span.begin)) c) (sym total_is) (IsWithin-path_cost d l span path sound well spans IsBest-reached.joined)
 
     pub IsCertificate-reached : IsWholeTable d l.entries span table → IsSpan d l span → (potentials : List ℤ) → potentials ≡ map (λ o. (reached table o).cost) (ordinals_in l.entries span) → (total : ℤ) → total ≡ r.cost → IsCertificate (record { lists = d; entries = l.entries; span = span; path = path; potentials = potentials; total = total })
     IsCertificate-reached whole spans potentials are total same =

@@ -1,10 +1,10 @@
 -- The entries that end at a position, and the cheapest of them before an id.
-use Rattle.std.specs.Prelude.{◌≡◌, ◌≢◌, ℕ, ◌+◌, ◌<◌, ◌≤◌, ℤ, pos, ◌+ℤ◌, ◌<ℤ◌, ◌≤ℤ◌, ◌⊎◌, List, length, slice_index, slice_index_or, Option, Some, None}
+use Rattle.std.specs.Prelude.{◌≡◌, ◌≢◌, ℕ, ◌+◌, ◌<◌, ◌≤◌, ℤ, pos, ◌+ℤ◌, ◌<ℤ◌, ◌≤ℤ◌, ◌⊎◌, List, length, slice_index_or, Option, Some, None}
 use Rattle.mz_base.specs.Data.{DataLists, connection}
 use Rattle.mz_base.specs.declared.lattice.Entry.{Entry}
 use Rattle.mz_base.specs.declared.lattice.Span.{Span}
 use Rattle.conversion_meaning.specs.Bounds.{IsWithin}
-use Rattle.conversion_meaning.specs.Lattices.{entry}
+use Rattle.conversion_meaning.specs.Lattices.{EndBefore, entry}
 use Rattle.viterbi.specs.declared.arrivals.Arrival.{Arrival}
 use Rattle.viterbi.specs.declared.arrivals.Arrivals.{Arrivals}
 use Rattle.viterbi.specs.declared.arrivals.Choice.{Choice}
@@ -36,10 +36,6 @@ pub record AreArrivals (es : List Entry) (span : Span) (table : List Reached) (t
   pub each : (k : ℕ) → k < length xs → IsArrival es span table to (arrival xs k)
   pub all : (o : ℕ) → o < length es → (entry es o).end ≡ to → span.begin ≤ (entry es o).begin → (k : ℕ) × (k < length xs) × ((arrival xs k).ordinal ≡ o)
   pub rising : AreRising xs
-
--- the entries before a place in the order of ends end before this position
-abbrev pub EndBefore : List Entry → List ℕ → ℕ → ℕ → Type 0
-EndBefore es by_end position cursor = (k : ℕ) → k < cursor → (entry es (slice_index by_end k)).end < position
 
 -- all that end at a position, and the place behind them in the order of ends
 pub record AreAllArrivals (es : List Entry) (by_end : List ℕ) (span : Span) (table : List Reached) (x : Arrivals) : Type 0 where

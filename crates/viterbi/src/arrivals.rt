@@ -1,10 +1,11 @@
 ghost use Rattle.std.specs.Prelude.{◌≡◌, ℕ, ◌*◌, ◌<◌, ◌≤◌, ◌+ℤ◌, [], length, IfOk};
 ghost use Rattle.conversion_meaning.specs.Bounds.{IsWithin};
 ghost use Rattle.conversion_meaning.specs.Lattices.{IsByEnd, IsCursor, entry};
-ghost use Rattle.viterbi.specs.Arrivals.{AreAllArrivals, AreSound, EndBefore, IsChoice, IsFirstLeast, IsLesser, IsReachedBy, cost_at};
+ghost use Rattle.viterbi.specs.Arrivals.{AreAllArrivals, AreSound, IsChoice, IsFirstLeast, IsLesser, IsReachedBy, cost_at};
 ghost use Rattle.viterbi.specs.Table.{most_reached, reached};
 
 use crate::table::{Reached, Target};
+use lattice::first_from;
 use mz_base::{DataSet, Entry, NoMemory, Span};
 use std::alloc::Global;
 
@@ -54,7 +55,7 @@ pub fn arrivals_at_begin(alloc: Global) -> Arrivals
     }
 }
 
-/// Those at the position `to`, gathered anew only where `here` has those of another one.
+/// The arrivals at `to`; reuses `here` where it has them already.
 pub fn arrivals_from(
     entries: &[Entry],
     by_end: &[u32],
@@ -76,21 +77,6 @@ pub fn arrivals_from(
     }
     let cursor = first_from(entries, by_end, here.past, to);
     arrivals_at(entries, by_end, table, span, here.list, cursor, to)
-}
-
-/// The first place from the cursor on whose entry does not end before the position.
-fn first_from(entries: &[Entry], by_end: &[u32], cursor: usize, position: u16) -> usize
-    requires order { IsByEnd entries.now by_end.now }
-    requires within { cursor ≤ length by_end.now }
-    requires before { EndBefore entries.now by_end.now position cursor }
-    ensures { IsCursor entries.now by_end.now position result }
-{
-    for place in cursor..by_end.len() {
-        if entries[by_end[place] as usize].end >= position {
-            return place;
-        }
-    }
-    by_end.len()
 }
 
 /// The entries of the span that end at the position `to`, from its cursor on, in place of those in the list.

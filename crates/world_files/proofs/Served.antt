@@ -5,9 +5,9 @@ use Rattle.std.specs.List.{list_any}
 use Rattle.std.specs.Str.{is_utf8}
 use Rattle.std.proofs.lemmas.Bool.{cases_Bool}
 use Rattle.std.proofs.lemmas.List.Folds.{list_any-append}
-use Rattle.mz_base.specs.Lines.{fields_of, lines_of}
+use Rattle.mz_base.specs.Lines.{fields_of, lines_of, is_skipped}
 use Rattle.scenario.specs.Entries.{name_of, file_of, dict_of, client_of, loaders_of}
-use Rattle.scenario.specs.Manifests.{Told, nothing_told, or_bad, with_set, with_file, with_user, with_dict, with_client, with_loaders, with_certificates, with_word, with_fields, with_line, manifest_from, is_skipped, have_romaji, manifest_after, manifest_of}
+use Rattle.scenario.specs.Manifests.{Told, nothing_told, or_bad, with_set, with_file, with_user, with_dict, with_client, with_loaders, with_certificates, with_word, with_fields, with_line, manifest_from, have_romaji, manifest_after, manifest_of}
 use Rattle.scenario.specs.Sound.{IsSound}
 use Rattle.scenario.specs.declared.manifest.Manifest.{Manifest}
 use Rattle.scenario.specs.declared.manifest.ManifestError.{ManifestError}

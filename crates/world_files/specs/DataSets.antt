@@ -7,8 +7,8 @@ use Rattle.mz_base.specs.declared.fault.Fault.{Fault}
 use Rattle.engine.specs.Sets.{data_of, has_role}
 use Rattle.engine.specs.declared.files.SetFile.{SetFile}
 use Rattle.world_files.specs.declared.reading.DataFile.{DataFile}
-use Rattle.world_files.specs.declared.refusal.Refusal.{Refusal}
-use Rattle.world_files.specs.declared.refusal.Refusal.TheVariants as refusal
+use Rattle.mz_base.specs.declared.status.Refusal.{Refusal}
+use Rattle.mz_base.specs.declared.status.Refusal.TheVariants as refusal
 
 -- the files of the set of this number
 abbrev pub files_of : ℕ → List DataFile → List SetFile

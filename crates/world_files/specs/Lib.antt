@@ -4,7 +4,7 @@ pub mod DataSets
 pub mod Loaded
 pub mod Queries
 pub mod Reading
-pub mod ScriptAnswers
-pub mod Scripts
 pub mod Unbuilt
 pub mod Worlds
+pub mod UnbuiltCommands
+pub mod Conversions

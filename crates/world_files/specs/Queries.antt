@@ -16,8 +16,8 @@ use Rattle.world_files.specs.Worlds.{opened}
 use Rattle.world_files.specs.declared.query.Query.{Query}
 use Rattle.world_files.specs.declared.reading.DataFile.{DataFile}
 use Rattle.world_files.specs.declared.reading.Found.{Found}
-use Rattle.world_files.specs.declared.refusal.Refusal.{Refusal}
-use Rattle.world_files.specs.declared.refusal.Refusal.TheVariants as refusal
+use Rattle.mz_base.specs.declared.status.Refusal.{Refusal}
+use Rattle.mz_base.specs.declared.status.Refusal.TheVariants as refusal
 
 -- a key that is not too long
 abbrev pub short_key : List ℕ → Result (List ℕ) Refusal

@@ -6,8 +6,8 @@ use Rattle.mz_outside.specs.Causes.{Rose}
 use Rattle.scenario.specs.declared.manifest.FileLine.{FileLine}
 use Rattle.world_files.specs.declared.reading.DataFile.{DataFile}
 use Rattle.world_files.specs.declared.reading.Found.{Found}
-use Rattle.world_files.specs.declared.refusal.Refusal.{Refusal}
-use Rattle.world_files.specs.declared.refusal.Refusal.TheVariants as refusal
+use Rattle.mz_base.specs.declared.status.Refusal.{Refusal}
+use Rattle.mz_base.specs.declared.status.Refusal.TheVariants as refusal
 
 -- files by name; a name is the bytes of its text
 abbrev pub Files : Type 0

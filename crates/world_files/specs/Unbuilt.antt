@@ -7,8 +7,8 @@ use Rattle.scenario.specs.Manifests.{manifest_of}
 use Rattle.scenario.specs.declared.manifest.Manifest.{Manifest}
 use Rattle.scenario.specs.declared.manifest.ManifestError.{ManifestError}
 use Rattle.scenario.specs.declared.manifest.ManifestError.TheVariants as error
-use Rattle.world_files.specs.declared.refusal.Refusal.{Refusal}
-use Rattle.world_files.specs.declared.refusal.Refusal.TheVariants as refusal
+use Rattle.mz_base.specs.declared.status.Refusal.{Refusal}
+use Rattle.mz_base.specs.declared.status.Refusal.TheVariants as refusal
 use Rattle.world_files.specs.declared.unbuilt.Single.{Single}
 use Rattle.world_files.specs.declared.unbuilt.Single.TheVariants as single
 

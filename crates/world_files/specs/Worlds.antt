@@ -1,17 +1,14 @@
 -- What the files of a run mean, or the first refusal in the order of work: docs/FORMATS.md, "Order of work".
-use Rattle.std.specs.Prelude.{ℕ, ◌-◌, Bool, true, false, List, [], Option, Some, None, slice_get, Result, Ok, Err, length}
+use Rattle.std.specs.Prelude.{ℕ, ◌-◌, Bool, true, false, List, [], Option, Some, None, slice_get, Result, Ok, length}
 use Rattle.mz_base.specs.Answers.{◌>>=◌}
 use Rattle.mz_base.specs.Data.{DataLists}
-use Rattle.mz_base.specs.Lines.{lines_of}
 use Rattle.scenario.specs.declared.manifest.ClientLine.{ClientLine}
 use Rattle.world_files.specs.DataSets.{files_of, set_in, listing_after}
 use Rattle.world_files.specs.Reading.{Files, file, files_after}
-use Rattle.world_files.specs.Scripts.{script_after}
 use Rattle.world_files.specs.Unbuilt.{manifest_served}
+use Rattle.world_files.specs.UnbuiltCommands.{script_obeyed}
 use Rattle.world_files.specs.declared.reading.TheConstants.{MOST_READ_BYTES}
-use Rattle.world_files.specs.declared.refusal.Refusal.{Refusal}
-use Rattle.world_files.specs.declared.refusal.Refusal.TheVariants as refusal
-use Rattle.world_files.specs.declared.script.Command.{Command}
+use Rattle.mz_base.specs.declared.status.Refusal.{Refusal}
 use Rattle.world_files.specs.declared.world.Opened.{Opened}
 use Rattle.world_files.specs.declared.world.Plan.{Plan}
 use Rattle.world_files.specs.declared.world.Planned.{Planned}
@@ -29,16 +26,11 @@ opened in_run files name = do
   manifest ← manifest_served in_run name bytes
   Ok (record { manifest = manifest; left = MOST_READ_BYTES - length bytes })
 
--- the script of this name: a line that is bad, not built or one command too many is unbuilt
-abbrev pub in_script : List ℕ → Result (List Command) ℕ → Result (List Command) Refusal
-in_script name (Ok commands) = Ok commands
-in_script name (Err line) = Err (refusal.Unbuilt name line)
-
 -- the client of a line with its commands, and the bytes that may be read after its script
 unfoldable pub client_in : Files → ℕ → ClientLine → Result Planned Refusal
 client_in files left line = do
   bytes ← file files left line.script
-  commands ← in_script line.script (script_after [] 1 (lines_of bytes))
+  commands ← script_obeyed line.script bytes
   Ok (record { client = Some (record { name = line.name; commands = commands }); left = left - length bytes })
 
 -- the client of a manifest, where it has one

@@ -3,7 +3,7 @@ ghost use Rattle.std.specs.List.{slice_split};
 ghost use Rattle.cert_text.specs.Fields.{bounds_in, RiseWithin};
 ghost use Rattle.world_files.specs.BoundTexts.{items_left, next_bound, rising};
 
-use mz_base::{NoMemory, number};
+use mz_base::{NoMemory, narrowed, number};
 use std::alloc::Global;
 use std::marker::Model;
 
@@ -119,12 +119,4 @@ fn cut_item(text: &str) -> (&str, Option<&str>)
         Some((item, rest)) => (item, Some(rest)),
         None => (text, None),
     }
-}
-
-/// The same numbers in fewer bits.
-fn narrowed(alloc: Global, bounds: &[u64]) -> Result<Vec<u16>, NoMemory>
-    requires { All (λ bound. bound < 2 ^ 16) bounds.now }
-    ensures { IfOk result (λ narrow. narrow.items ≡ bounds.now) }
-{
-    Ok(bounds.iter().map(|bound| *bound as u16).collect(alloc)?)
 }

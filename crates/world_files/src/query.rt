@@ -10,14 +10,13 @@ ghost use Rattle.world_files.specs.Reading.{Files, Reads, Tells, IsRefusal};
 
 use crate::name::Name;
 use crate::reading::{DataFile, Found, read_file, read_files};
-use crate::refusal::Refusal;
 use crate::sets::set_in;
 use crate::world::open_manifest;
 use cert_text::TextError;
 use engine::{Engine, SetFile};
-use mz_base::{CertFault, Certificate, DataSet, Limit, MOST_KEY, NoMemory, Text};
+use mz_base::{CertFault, Certificate, DataSet, Limit, MOST_KEY, NoMemory, Refusal, Text};
 use mz_outside::Store;
-use scenario::FileLine;
+use scenario::{FileLine, place_among};
 use std::alloc::Global;
 
 /// What is asked of one data set: its manifest, its name, and a key.
@@ -118,25 +117,17 @@ fn set_number(alloc: Global, name: &Text, names: &[Text]) -> Result<u32, Refusal
     ensures told { Tells (λ number. number) result (set_number name.now names.now) }
     ensures reads_nothing { result ≢ Err Refusal.ReadFault }
 {
-    match place_of(name, names) {
+    match place_among(names, name.as_chars()) {
         Some(place) => Ok(place as u32 + 1),
         None => Err(no_set(alloc, name)),
     }
-}
-
-fn place_of(name: &Text, names: &[Text]) -> Option<usize>
-    ensures { result ≡ position (is_text name.now) names.now }
-{
-    names
-        .iter()
-        .position(|other| other.as_chars() == name.as_chars())
 }
 
 fn no_set(alloc: Global, name: &Text) -> Refusal
     ensures told { IsRefusal result (or_no_set name.now None) }
     ensures reads_nothing { result ≢ Refusal.ReadFault }
 {
-    match Text::from_chars(alloc, name.as_chars()) {
+    match name.copy(alloc) {
         Ok(name) => Refusal::NoSet(name),
         Err(NoMemory) => Refusal::Memory,
     }

@@ -1,9 +1,8 @@
 ghost use Rattle.std.specs.Prelude.{◌≡◌, ◌≢◌, ◌≤◌, [], Some, Err, IfOk, length};
 ghost use Rattle.world_files.specs.Reading.{Files, Reads, Tells, IsRefusal, file, within, no_file, data_file, files_after};
 
-use crate::refusal::Refusal;
 use engine::SetFile;
-use mz_base::{Limit, NoMemory, Seq, Text};
+use mz_base::{Limit, NoMemory, Refusal, Seq, Text};
 use mz_outside::{Store, StoreFault};
 use scenario::FileLine;
 use std::alloc::Global;
@@ -60,7 +59,7 @@ fn absent(alloc: Global, name: &Text) -> Refusal
     ensures told { IsRefusal result (no_file name.now) }
     ensures reads_nothing { result ≢ Refusal.ReadFault }
 {
-    match Text::from_chars(alloc, name.as_chars()) {
+    match name.copy(alloc) {
         Ok(name) => Refusal::Absent(name),
         Err(NoMemory) => Refusal::Memory,
     }
@@ -97,7 +96,7 @@ fn data_file(alloc: Global, line: &FileLine, bytes: Vec<u8>) -> Result<DataFile,
         set: line.set,
         file: SetFile {
             role: line.role,
-            path: Text::from_chars(alloc, line.path.as_chars())?,
+            path: line.path.copy(alloc)?,
             bytes: Seq::from_vec(bytes),
         },
     })

@@ -6,9 +6,8 @@ ghost use Rattle.world_files.specs.DataSets.{files_of, others_of, path_of, or_ba
 ghost use Rattle.world_files.specs.Reading.{Tells, IsRefusal};
 
 use crate::reading::DataFile;
-use crate::refusal::Refusal;
 use engine::{BuildError, Engine, SetFile, SetFiles, build, has_role};
-use mz_base::{BadSet, DataSet, Fault, NoMemory, Seq, Text};
+use mz_base::{BadSet, DataSet, Fault, NoMemory, Refusal, Seq, Text};
 use std::alloc::Global;
 
 /// Some data files: those of one set, and those of the others.
@@ -107,7 +106,7 @@ fn path_of(alloc: Global, files: &[SetFile], fault: Fault) -> Result<Text, NoMem
     for file in files {
         if has_role(file, fault.role) {
             if left <= 1 {
-                return Text::from_chars(alloc, file.path.as_chars());
+                return file.path.copy(alloc);
             }
             left -= 1;
         }

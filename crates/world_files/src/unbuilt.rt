@@ -1,13 +1,13 @@
 ghost use Rattle.std.specs.Prelude.{◌≡◌, ◌≢◌, ◌≤◌, ◌++◌, IfOk, OnOk, Some, Ok, Err, length, option_to_list};
 ghost use Rattle.std.specs.List.{list_any};
 ghost use Rattle.mz_base.specs.Lines.{lines_of, pointed};
+ghost use Rattle.scenario.specs.Sound.{IsSound};
 ghost use Rattle.scenario.specs.declared.manifest.TheConstants.{MOST_SETS};
 ghost use Rattle.world_files.specs.Reading.{IsRefusal, Tells, UnlessFree};
 ghost use Rattle.world_files.specs.Unbuilt.{single_of, single_in, is_same, is_second, is_dictionary, is_certificates, is_other_file, is_unbuilt, text_fields, unbuilt_line, refused_line, manifest_refusal, or_unbuilt, manifest_served};
 
-use crate::refusal::Refusal;
-use mz_base::{NoMemory, Text, cut_fields, cut_lines, text_of_line};
-use scenario::{Manifest, ManifestError, read_lines};
+use mz_base::{NoMemory, Refusal, Text, cut_fields, cut_lines, text_of_line};
+use scenario::{Manifest, ManifestError, manifests_are_sound, read_lines};
 use std::alloc::Global;
 
 /// A word of a manifest of which a run takes one line.
@@ -29,8 +29,10 @@ pub fn manifest_served(
     ensures told { Tells (λ manifest. manifest) result (manifest_served in_run name.now bytes.now) }
     ensures sets { IfOk result (λ manifest. length manifest.sets ≤ MOST_SETS) }
     ensures files { IfOk result (λ manifest. length manifest.files ≤ length (lines_of bytes.now)) }
+    ensures sound { IfOk result IsSound }
     ensures reads_nothing { result ≢ Err Refusal.ReadFault }
 {
+    manifests_are_sound();
     let lines = cut_lines(alloc, bytes)?;
     let unbuilt = unbuilt_line(alloc, in_run, lines.as_slice())?;
     or_unbuilt(alloc, name, read_lines(alloc, lines.as_slice()), unbuilt)
@@ -89,7 +91,7 @@ pub fn unbuilt_at(alloc: Global, name: &Text, line: u64) -> Refusal
     ensures told { UnlessFree result (result ≡ Refusal.Unbuilt name.now line) }
     ensures reads_nothing { result ≢ Refusal.ReadFault }
 {
-    match Text::from_chars(alloc, name.as_chars()) {
+    match name.copy(alloc) {
         Ok(name) => Refusal::Unbuilt(name, line),
         Err(NoMemory) => Refusal::Memory,
     }

@@ -1,19 +1,18 @@
-ghost use Rattle.std.specs.Prelude.{◌≡◌, ◌≢◌, ◌<◌, ◌≤◌, ◌^◌, ◌-◌, ℕ, List, [], Option, Some, None, Err, IfOk, length, slice_get};
+ghost use Rattle.std.specs.Prelude.{◌≡◌, ◌≢◌, ◌<◌, ◌≤◌, ◌^◌, ◌-◌, ℕ, List, [], Option, Some, None, Err, IfOk, is_some, length, slice_get, true};
 ghost use Rattle.std.specs.Option.{option_copied};
 ghost use Rattle.std.specs.String.{string_bytes};
-ghost use Rattle.mz_base.specs.Lines.{lines_of};
-ghost use Rattle.world_files.specs.Loaded.{world_of};
+ghost use Rattle.scenario.specs.Sound.{IsSound};
+ghost use Rattle.world_files.specs.Loaded.{HasUser, world_of};
 ghost use Rattle.world_files.specs.Reading.{Files, Reads, Tells, IsRefusal};
-ghost use Rattle.world_files.specs.Scripts.{script_after};
-ghost use Rattle.world_files.specs.Worlds.{opened, client_in, in_script, planned, world, listing};
+ghost use Rattle.world_files.specs.Worlds.{opened, client_in, planned, world, listing};
 
 use crate::reading::{MOST_READ_BYTES, read_file, read_files};
-use crate::refusal::Refusal;
-use crate::script::{Command, ScriptError, read_script};
 use crate::sets::{first_set, list_sets};
-use crate::unbuilt::{manifest_served, unbuilt_at};
+use crate::unbuilt::manifest_served;
+use crate::unbuilt_command::script_obeyed;
 use engine::Engine;
-use mz_base::{DataSet, NoMemory, Seq, Text};
+use keys::Command;
+use mz_base::{DataSet, NoMemory, Refusal, Seq, Text};
 use mz_outside::Store;
 use scenario::{ClientLine, Manifest};
 use std::alloc::Global;
@@ -51,6 +50,7 @@ pub struct Planned {
 #[tactic(auto, unfolding(crate::specs::Worlds::world))]
 pub fn read_world<S: Store>(alloc: Global, store: &mut S, name: &Text) -> Result<Loaded, Refusal>
     ensures told { (files : Files) → S.files store.old ≡ Some files → Tells (λ loaded. world_of loaded (⟦<Engine as DataSet>⟧.lists loaded.set)) result (world files name.now) }
+    ensures user { IfOk result HasUser }
     ensures reads { Reads (S.files store.old) (S.files store.new) (S.faults store.old) (S.faults store.new) result }
 {
     let start = open_manifest(alloc, store, true, name)?;
@@ -90,7 +90,7 @@ fn first_name(alloc: Global, names: &[Text]) -> Result<Option<Text>, NoMemory>
     ensures { IfOk result (λ name. name ≡ slice_get names.now 0) }
 {
     match names {
-        [name, ..] => Ok(Some(Text::from_chars(alloc, name.as_chars())?)),
+        [name, ..] => Ok(Some(name.copy(alloc)?)),
         [] => Ok(None),
     }
 }
@@ -105,6 +105,7 @@ pub fn open_manifest<S: Store>(
     ensures told { (files : Files) → S.files store.old ≡ Some files → Tells (λ opened. opened) result (opened in_run files name.now) }
     ensures few { IfOk result (λ opened. length opened.manifest.files < 2 ^ 32) }
     ensures sets { IfOk result (λ opened. length opened.manifest.sets < 2 ^ 32 - 1) }
+    ensures sound { IfOk result (λ opened. IsSound opened.manifest) }
     ensures reads { Reads (S.files store.old) (S.files store.new) (S.faults store.old) (S.faults store.new) result }
 {
     let bytes = read_file(alloc, store, MOST_READ_BYTES, name)?;
@@ -122,6 +123,7 @@ fn plan_client<S: Store>(
     line: Option<&ClientLine>,
 ) -> Result<Planned, Refusal>
     ensures told { (files : Files) → S.files store.old ≡ Some files → Tells (λ planned. planned) result (planned files left (option_copied line.entry)) }
+    ensures some { IfOk result (λ planned. is_some planned.client ≡ is_some (option_copied line.entry)) }
     ensures reads { Reads (S.files store.old) (S.files store.new) (S.faults store.old) (S.faults store.new) result }
 {
     match line {
@@ -138,27 +140,14 @@ fn client_in<S: Store>(
     line: &ClientLine,
 ) -> Result<Planned, Refusal>
     ensures told { (files : Files) → S.files store.old ≡ Some files → Tells (λ planned. planned) result (client_in files left line.now) }
+    ensures some { IfOk result (λ planned. is_some planned.client ≡ true) }
     ensures reads { Reads (S.files store.old) (S.files store.new) (S.faults store.old) (S.faults store.new) result }
 {
     let bytes = read_file(alloc, store, left, &line.script)?;
-    let commands = in_script(alloc, &line.script, bytes.as_slice())?;
-    let name = Text::from_chars(alloc, line.name.as_chars())?;
+    let commands = script_obeyed(alloc, &line.script, bytes.as_slice())?;
+    let name = line.name.copy(alloc)?;
     Ok(Planned {
-        client: Some(Plan {
-            name,
-            commands: Seq::from_vec(commands),
-        }),
+        client: Some(Plan { name, commands }),
         left: left - bytes.len(),
     })
-}
-
-fn in_script(alloc: Global, name: &Text, bytes: &[u8]) -> Result<Vec<Command>, Refusal>
-    ensures told { Tells (λ commands. commands.items) result (in_script name.now (script_after [] 1 (lines_of bytes.now))) }
-    ensures reads_nothing { result ≢ Err Refusal.ReadFault }
-{
-    match read_script(alloc, bytes) {
-        Ok(commands) => Ok(commands),
-        Err(ScriptError::Line(line)) => Err(unbuilt_at(alloc, name, line)),
-        Err(ScriptError::NoMemory) => Err(Refusal::Memory),
-    }
 }

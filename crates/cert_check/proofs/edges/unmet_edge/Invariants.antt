@@ -1,5 +1,6 @@
 use Rattle.std.proofs.Common.{◌≤◌, length}
-use Rattle.cert_check.specs.Edges.{AreMetTo, EndBefore, target_at}
+use Rattle.conversion_meaning.specs.Lattices.{EndBefore}
+use Rattle.cert_check.specs.Edges.{AreMetTo, target_at}
 use Rattle.cert_check.proofs.edges.unmet_edge.Given as goal
 
 -- the targets so far are met, and the cursor is not past the next one's

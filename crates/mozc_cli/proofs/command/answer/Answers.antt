@@ -1,5 +1,5 @@
 use Rattle.std.proofs.Common.{refl}
-use Rattle.mozc_cli.proofs.Settling.{written-settles, refused-settles}
+use Rattle.mozc_cli.proofs.Settling.{written-settles}
 use Rattle.mozc_cli.proofs.command.answer.Goals as goal
 
 pub returns-in-Ok-clause-settled : goal.returns-in-Ok-clause-settled
@@ -8,4 +8,4 @@ returns-in-Ok-clause-settled g c files told =
 
 pub returns-in-Err-clause-settled : goal.returns-in-Err-clause-settled
 returns-in-Err-clause-settled g c files told =
-    rw c.refused.ensures (refused-settles _ _ _ _ (c.in-Err.ensures.told files told) refl)
+    record { gives = c.in-Err.ensures.told files told; silent = refl }

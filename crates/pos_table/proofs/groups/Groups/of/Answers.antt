@@ -13,4 +13,4 @@ loop-row-preserved c =
     let rows = c.args.rows.now in
     let at = c.loop-row.row-index in
     let row = c.row-item.result in
-    rw (take_more rows at row c.loop-row-test.true, ← c.row-item.is) (AreGroups-push c.loop-row.groups c.add.new.self (take at rows) row c.in_ok-reading.reading.items c.in_ok-value.value c.loop-row.invariant (c.in_ok-reading.ensures.items ∙ c.as_chars.ensures) (c.in_ok-value.ensures ∙ c.as_chars-in-loop-row.ensures) c.in_ok-add.ensures)
+    rw (take_more rows at row c.loop-row-test.true, ← c.row-item.is) (AreGroups-push c.loop-row.groups c.add.new.self (take at rows) row c.in_ok-reading.reading.items c.in_ok-value.value c.loop-row.invariant (c.in_ok-reading.ensures.items ∙ c.as_chars.ensures) c.in_ok-value.ensures c.in_ok-add.ensures)

@@ -1,6 +1,0 @@
-use Rattle.cert_check.specs.Edges.{EndBefore}
-use Rattle.cert_check.proofs.cursor.advance.Given as goal
-
--- the entries that were passed end before the position
-abbrev pub invariant-loop-place : goal.invariant-loop-place
-invariant-loop-place l = EndBefore l.entries l.by_end l.position l.place

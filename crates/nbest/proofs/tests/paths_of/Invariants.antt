@@ -1,6 +1,0 @@
-use Rattle.conversion_meaning.specs.Examples.{set}
-use Rattle.nbest.specs.Searches.{IsSearch}
-use Rattle.nbest.proofs.tests.paths_of.Given as goal
-
-abbrev pub invariant-loop-place : goal.invariant-loop-place
-invariant-loop-place l = IsSearch set l.lattice l.search
