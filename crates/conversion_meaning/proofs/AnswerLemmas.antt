@@ -11,8 +11,8 @@ use Rattle.mz_base.specs.declared.lattice.Entry.{Entry}
 use Rattle.mz_base.specs.declared.lattice.Lattice.{Lattice}
 use Rattle.mz_base.specs.declared.lattice.Span.{Span}
 use Rattle.mz_base.specs.declared.user.UserRow.{UserRow}
-use Rattle.conversion_meaning.specs.AnswerLaws.{IsAnswer}
-use Rattle.conversion_meaning.specs.Answers.{answer, certificate_over, least_cost, least_costs}
+use Rattle.conversion_meaning.specs.AnswerLaws.{IsFirstAnswer}
+use Rattle.conversion_meaning.specs.Answers.{first_answer, certificate_over, least_cost, least_costs}
 use Rattle.conversion_meaning.specs.InOrder.{best_path}
 use Rattle.conversion_meaning.specs.Lattices.{IsLatticeOf, IsWellFormed, entry}
 use Rattle.conversion_meaning.specs.Paths.{IsSpan, path_cost, whole}
@@ -88,21 +88,21 @@ module _ (d : DataLists) (rows : List UserRow) (l : Lattice) (sound : AreDataSou
   made bounds path potentials total =
       record { bounds = bounds; path = path; potentials = potentials; total = total }
 
-  answer_is : answer d rows l.key l.bounds ≡ certificate_over d l.entries (whole l 0) l.bounds
-  unfolding answer
+  answer_is : first_answer d rows l.key l.bounds ≡ certificate_over d l.entries (whole l 0) l.bounds
+  unfolding first_answer
   answer_is = ap (λ es. certificate_over d es (whole l 0) l.bounds) (sym of.entries_are)
 
-  pub IsAnswer-answer : IsAnswer d l (answer d rows l.key l.bounds)
-  IsAnswer-answer =
-      subst (λ c. IsAnswer d l c) (sym answer_is) (record {
+  pub IsFirstAnswer-first_answer : IsFirstAnswer d l (first_answer d rows l.key l.bounds)
+  IsFirstAnswer-first_answer =
+      subst (λ c. IsFirstAnswer d l c) (sym answer_is) (record {
         same_bounds = refl;
         best = IsBest-best_path d l (whole l 0) well spans;
         least = AreLeastCosts-least_costs d l (whole l 0) well spans;
         total_is = refl;
       })
 
-  pub answer-one : (c : Certificate) → IsAnswer d l c → c ≡ answer d rows l.key l.bounds
-  answer-one c is =
+  pub first_answer-one : (c : Certificate) → IsFirstAnswer d l c → c ≡ first_answer d rows l.key l.bounds
+  first_answer-one c is =
       let path = IsBest-is_first d l.entries (whole l 0) (AreForward-from_well d l well) c.path is.best in
       let costs = least_costs-one d l (whole l 0) well spans c.potentials is.least in
       let total = is.total_is ∙ ap (path_cost d l.entries (whole l 0)) path in

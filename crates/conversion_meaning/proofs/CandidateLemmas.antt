@@ -10,6 +10,7 @@ use Rattle.mz_base.specs.declared.lattice.Entry.{Entry}
 use Rattle.mz_base.specs.declared.lattice.Span.{Span}
 use Rattle.mz_base.specs.declared.user.UserRow.{UserRow}
 use Rattle.conversion_meaning.specs.Candidates.{CostsNoMore, candidate_of, differs_from, first_of_each, first_values}
+use Rattle.conversion_meaning.specs.Firsts.{firsts}
 use Rattle.conversion_meaning.specs.InOrder.{paths_in_order}
 use Rattle.conversion_meaning.specs.Order.{IsBefore}
 use Rattle.conversion_meaning.specs.Paths.{path_cost}
@@ -60,20 +61,20 @@ other_value x y passes same =
     cc
 
 pub from_first_of_each : (x : Candidate) (xs : List Candidate) → Among x (first_of_each xs) → Among x xs
-unfolding first_of_each
+unfolding firsts
 from_first_of_each x [] h = h
 from_first_of_each x (y ∷ xs) (inl same) = inl same
 from_first_of_each x (y ∷ xs) (inr h) =
     inr (from_first_of_each x xs (from_filter (differs_from y) x (first_of_each xs) h).0)
 
 Rises-first_of_each : (R : Candidate → Candidate → Type 0) (xs : List Candidate) → Rises R xs → Rises R (first_of_each xs)
-unfolding first_of_each
+unfolding firsts
 Rises-first_of_each R [] h = tt
 Rises-first_of_each R (x ∷ xs) h =
     (λ y k. h.0 y (from_first_of_each y xs (from_filter (differs_from x) y (first_of_each xs) k).0), Rises-filter R (differs_from x) (first_of_each xs) (Rises-first_of_each R xs h.1))
 
 first_of_each-once : (xs : List Candidate) → Rises HaveOthers (first_of_each xs)
-unfolding first_of_each
+unfolding firsts
 first_of_each-once [] = tt
 first_of_each-once (x ∷ xs) =
     (λ y k. other_value x y (from_filter (differs_from x) y (first_of_each xs) k).1, Rises-filter HaveOthers (differs_from x) (first_of_each xs) (first_of_each-once xs))
@@ -82,10 +83,13 @@ module _ (d : DataLists) (rows : List UserRow) (key : List ℕ) (es : List Entry
   abbrev candidates : List Candidate
   candidates = map (candidate_of d rows key es span) (take MOST_PATHS (paths_in_order d es span))
 
-  pub AllPairs-values : AllPairs (λ (candidate later : Candidate). candidate.value ≢ later.value) (first_values d rows key es span)
+  pub Rises-values : Rises (λ (candidate later : Candidate). candidate.value ≢ later.value) (first_values d rows key es span)
   unfolding first_values
-  AllPairs-values =
-      AllPairs-from_rises HaveOthers (take MOST_VALUES (first_of_each candidates)) (Rises-take HaveOthers MOST_VALUES (first_of_each candidates) (first_of_each-once candidates))
+  Rises-values =
+      Rises-take HaveOthers MOST_VALUES (first_of_each candidates) (first_of_each-once candidates)
+
+  pub AllPairs-values : AllPairs (λ (candidate later : Candidate). candidate.value ≢ later.value) (first_values d rows key es span)
+  AllPairs-values = AllPairs-from_rises HaveOthers (first_values d rows key es span) Rises-values
 
   costs_no_more : (p q : List ℕ) → IsBefore d es span p q → CostsNoMore (candidate_of d rows key es span p) (candidate_of d rows key es span q)
   costs_no_more p q before x y one other =

@@ -19,3 +19,11 @@ pub mod InOrderLemmas
 pub mod AnswerLemmas
 pub mod CandidateLemmas
 pub mod SomeLattice
+pub mod CutLemmas
+pub mod PartLemmas
+pub mod CutParts
+pub mod SegmentLemmas
+pub mod RuleLemmas
+pub mod SegmentValues
+pub mod PartOfBest
+pub mod BeginLemmas

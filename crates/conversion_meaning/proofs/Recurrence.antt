@@ -61,7 +61,7 @@ lower_front p q a lower =
     compared-push p q a a ∙ (ap (λ o. ordering_then o (slice_cmp nat_cmp (reverse p) (reverse q))) first ∙ lower)
 
 -- nothing else leads from a position to itself
-only_nothing : (es : List Entry) → AreForward es → (here : ℕ) (q : List ℕ) → IsPath es here here q → q ≡ []
+pub only_nothing : (es : List Entry) → AreForward es → (here : ℕ) (q : List ℕ) → IsPath es here here q → q ≡ []
 only_nothing es forward here [] joined = refl
 only_nothing es forward here (o ∷ q) joined =
     let ahead = forward o joined.0 in

@@ -7,7 +7,7 @@ use Rattle.mz_base.specs.declared.lattice.Entry.{Entry}
 use Rattle.mz_base.specs.declared.lattice.Lattice.{Lattice}
 use Rattle.mz_base.specs.declared.lattice.Span.{Span}
 use Rattle.mz_base.specs.declared.user.UserRow.{UserRow}
-use Rattle.conversion_meaning.specs.Answers.{answer, least_costs}
+use Rattle.conversion_meaning.specs.Answers.{first_answer, least_costs}
 use Rattle.conversion_meaning.specs.Best.{IsBest}
 use Rattle.conversion_meaning.specs.Candidates.{CostsNoMore, first_values}
 use Rattle.conversion_meaning.specs.InOrder.{best_path, paths_in_order}
@@ -68,22 +68,22 @@ LeastCostsAreOne =
 
 -- ---- Answers
 
--- what an answer to a lattice is: the bounds, the best path over the whole key, its cost and the least costs
-pub record IsAnswer (d : DataLists) (l : Lattice) (c : Certificate) : Type 0 where
+-- what the first answer to a lattice is: the bounds, the best path over the whole key, its cost and the least costs
+pub record IsFirstAnswer (d : DataLists) (l : Lattice) (c : Certificate) : Type 0 where
   pub same_bounds : c.bounds ≡ l.bounds
   pub best : IsBest d l.entries (whole l 0) c.path
   pub least : AreLeastCosts d l.entries (whole l 0) c.potentials
   pub total_is : c.total ≡ path_cost d l.entries (whole l 0) c.path
 
--- the answer is one
-abbrev pub AnswerIsAnswer : Type 0
-AnswerIsAnswer =
-    (d : DataLists) (rows : List UserRow) (l : Lattice) → AreDataSound d → IsLatticeOf d rows l → IsAnswer d l (answer d rows l.key l.bounds)
+-- the first answer is one
+abbrev pub FirstAnswerIsFirst : Type 0
+FirstAnswerIsFirst =
+    (d : DataLists) (rows : List UserRow) (l : Lattice) → AreDataSound d → IsLatticeOf d rows l → IsFirstAnswer d l (first_answer d rows l.key l.bounds)
 
--- and what is one is the answer
-abbrev pub AnswerIsOne : Type 0
-AnswerIsOne =
-    (d : DataLists) (rows : List UserRow) (l : Lattice) (c : Certificate) → AreDataSound d → IsLatticeOf d rows l → IsAnswer d l c → c ≡ answer d rows l.key l.bounds
+-- and what is one is the first answer
+abbrev pub FirstAnswerIsOne : Type 0
+FirstAnswerIsOne =
+    (d : DataLists) (rows : List UserRow) (l : Lattice) (c : Certificate) → AreDataSound d → IsLatticeOf d rows l → IsFirstAnswer d l c → c ≡ first_answer d rows l.key l.bounds
 
 -- ---- The values of a span
 

@@ -1,11 +1,12 @@
 -- The values of a span: docs/CONVERSION.md, "Values of a span".
-use Rattle.std.specs.Prelude.{◌≡◌, ℕ, ℤ, ◌≤ℤ◌, Bool, not, List, [], ◌∷◌, Some, filter, map, take}
+use Rattle.std.specs.Prelude.{◌≡◌, ℕ, ℤ, ◌≤ℤ◌, Bool, not, List, Some, map, take}
 use Rattle.std.specs.List.{flat_map}
 use Rattle.mz_base.specs.Data.{DataLists, is_text}
 use Rattle.mz_base.specs.declared.lattice.Candidate.{Candidate}
 use Rattle.mz_base.specs.declared.lattice.Entry.{Entry}
 use Rattle.mz_base.specs.declared.lattice.Span.{Span}
 use Rattle.mz_base.specs.declared.user.UserRow.{UserRow}
+use Rattle.conversion_meaning.specs.Firsts.{firsts}
 use Rattle.conversion_meaning.specs.InOrder.{paths_in_order}
 use Rattle.conversion_meaning.specs.Lattices.{entry}
 use Rattle.conversion_meaning.specs.Paths.{path_cost}
@@ -26,9 +27,8 @@ abbrev pub differs_from : Candidate → Candidate → Bool
 differs_from candidate other = not (is_text candidate.value other.value)
 
 -- of each value the first
-unfoldable pub first_of_each : List Candidate → List Candidate
-first_of_each [] = []
-first_of_each (candidate ∷ rest) = candidate ∷ filter (differs_from candidate) (first_of_each rest)
+abbrev pub first_of_each : List Candidate → List Candidate
+first_of_each candidates = firsts differs_from candidates
 
 -- The first values of a span: of the first paths in order, of each value the first, and of these the first.
 unfoldable pub first_values : DataLists → List UserRow → List ℕ → List Entry → Span → List Candidate

@@ -1,22 +1,27 @@
 -- Worked examples: a small data set, and what its definitions give for some keys.
 use Rattle.std.specs.Prelude.{◌≡◌, ℕ, ℤ, pos, List, [], ◌∷◌, Some, None, length}
 use Rattle.mz_base.specs.Data.{DataLists}
+use Rattle.mz_base.specs.declared.conversion.Segment.{Segment}
 use Rattle.mz_base.specs.declared.data.PosRow.{PosRow}
 use Rattle.mz_base.specs.declared.data.UnknownRow.{UnknownRow}
 use Rattle.mz_base.specs.declared.data.WordRow.{WordRow}
 use Rattle.mz_base.specs.declared.lattice.Candidate.{Candidate}
 use Rattle.mz_base.specs.declared.lattice.Certificate.{Certificate}
 use Rattle.mz_base.specs.declared.lattice.Entry.{Entry}
+use Rattle.mz_base.specs.declared.lattice.Pair.{Pair}
 use Rattle.mz_base.specs.declared.lattice.Source.{Source}
 use Rattle.mz_base.specs.declared.status.CertFault.TheVariants as fault
 use Rattle.mz_base.specs.declared.lattice.Source.TheVariants.{Word, Char, Run}
 use Rattle.mz_base.specs.declared.lattice.Span.{Span}
-use Rattle.conversion_meaning.specs.Answers.{answer}
+use Rattle.conversion_meaning.specs.Answers.{answer, first_answer}
 use Rattle.conversion_meaning.specs.Best.{IsBest}
 use Rattle.conversion_meaning.specs.Candidates.{first_values}
 use Rattle.conversion_meaning.specs.Certificates.{Claim, IsCertificate}
 use Rattle.conversion_meaning.specs.Entries.{entries, suppressed}
 use Rattle.conversion_meaning.specs.InOrder.{paths_in_order}
+use Rattle.conversion_meaning.specs.Rules.{spelled}
+use Rattle.conversion_meaning.specs.Segments.{cut}
+use Rattle.conversion_meaning.specs.Suggestions.{suggestions}
 use Rattle.conversion_meaning.specs.Verdicts.{IsFault}
 
 abbrev pub word_row : List ℕ → ℕ → ℕ → ℕ → List ℕ → WordRow
@@ -156,7 +161,7 @@ abbrev pub KyouhaValues : Type 0
 KyouhaValues =
     first_values set [] kyouha kyouha_entries (span_of 4) ≡ value_with (0x4eca ∷ 0x65e5 ∷ 0x306f ∷ []) 750 ∷ value_with (0x4eac ∷ 0x306f ∷ []) 800 ∷ value_with (0x4eca ∷ 0x65e5 ∷ 0x8449 ∷ []) 1500 ∷ value_with (0x4eac ∷ 0x8449 ∷ []) 1550 ∷ value_with (0x304d ∷ 0x3087 ∷ 0x3046 ∷ 0x306f ∷ []) 16250 ∷ value_with (0x304d ∷ 0x3087 ∷ 0x3046 ∷ 0x8449 ∷ []) 17000 ∷ []
 
--- the answer to きょうは with a bound after き
+-- the first answer to きょうは with a bound after き
 abbrev pub kyouha_cut_answer : Certificate
 kyouha_cut_answer =
     record {
@@ -167,4 +172,60 @@ kyouha_cut_answer =
     }
 
 abbrev pub KyouhaCutAnswer : Type 0
-KyouhaCutAnswer = answer set [] kyouha (1 ∷ []) ≡ kyouha_cut_answer
+KyouhaCutAnswer = first_answer set [] kyouha (1 ∷ []) ≡ kyouha_cut_answer
+
+-- its segments: き, for the bound; ょ, which う does not join; and うは, since the ids of う and は join
+abbrev pub KyouhaCutSegments : Type 0
+KyouhaCutSegments = cut set cut_entries (1 ∷ []) (0 ∷ 1 ∷ 2 ∷ 3 ∷ []) ≡ (0, 1) ∷ (1, 2) ∷ (2, 4) ∷ []
+
+-- the rules in the order in which they are applied
+abbrev pub all_rules : List ℕ
+all_rules = 2 ∷ 3 ∷ 4 ∷ 5 ∷ 6 ∷ 1 ∷ []
+
+abbrev pub value_without : List ℕ → Candidate
+value_without value = record { value = value; cost = None }
+
+abbrev pub segment_with : ℕ → ℕ → List Candidate → Segment
+segment_with begin end candidates = record { begin = begin; end = end; candidates = candidates }
+
+abbrev pub pair_with : List ℕ → List ℕ → Pair
+pair_with key value = record { key = key; value = value }
+
+-- きょうは is one segment: its values, and then キョウハ and ｷｮｳﾊ
+abbrev pub KyouhaAnswer : Type 0
+KyouhaAnswer =
+    (answer set [] [] all_rules kyouha []).segments ≡ segment_with 0 4 (value_with (0x4eca ∷ 0x65e5 ∷ 0x306f ∷ []) 750 ∷ value_with (0x4eac ∷ 0x306f ∷ []) 800 ∷ value_with (0x4eca ∷ 0x65e5 ∷ 0x8449 ∷ []) 1500 ∷ value_with (0x4eac ∷ 0x8449 ∷ []) 1550 ∷ value_with (0x304d ∷ 0x3087 ∷ 0x3046 ∷ 0x306f ∷ []) 16250 ∷ value_with (0x304d ∷ 0x3087 ∷ 0x3046 ∷ 0x8449 ∷ []) 17000 ∷ value_without (0x30ad ∷ 0x30e7 ∷ 0x30a6 ∷ 0x30cf ∷ []) ∷ value_without (0xff77 ∷ 0xff6e ∷ 0xff73 ∷ 0xff8a ∷ []) ∷ []) ∷ []
+
+-- with a bound after き: き, キ and ｷ; ょ, ョ and ｮ; うは, う葉, ウハ and ｳﾊ
+abbrev pub KyouhaCutLists : Type 0
+KyouhaCutLists =
+    (answer set [] [] all_rules kyouha (1 ∷ [])).segments ≡ segment_with 0 1 (value_with (0x304d ∷ []) 5500 ∷ value_without (0x30ad ∷ []) ∷ value_without (0xff77 ∷ []) ∷ []) ∷ segment_with 1 2 (value_with (0x3087 ∷ []) 5800 ∷ value_without (0x30e7 ∷ []) ∷ value_without (0xff6e ∷ []) ∷ []) ∷ segment_with 2 4 (value_with (0x3046 ∷ 0x306f ∷ []) 5750 ∷ value_with (0x3046 ∷ 0x8449 ∷ []) 6500 ∷ value_without (0x30a6 ∷ 0x30cf ∷ []) ∷ value_without (0xff73 ∷ 0xff8a ∷ []) ∷ []) ∷ []
+
+-- the newest pair of this key whose value is in the list is 京は; 教 is in no list, and も another key
+abbrev pub chosen_before_kyouha : List Pair
+chosen_before_kyouha =
+    pair_with kyouha (0x6559 ∷ []) ∷ pair_with mo (0x4eca ∷ 0x65e5 ∷ 0x306f ∷ []) ∷ pair_with kyouha (0x4eac ∷ 0x306f ∷ []) ∷ pair_with kyouha (0x4eca ∷ 0x65e5 ∷ 0x8449 ∷ []) ∷ []
+
+-- so 京は goes to the front
+abbrev pub KyouhaChosen : Type 0
+KyouhaChosen =
+    (answer set [] chosen_before_kyouha (1 ∷ []) kyouha []).segments ≡ segment_with 0 4 (value_with (0x4eac ∷ 0x306f ∷ []) 800 ∷ value_with (0x4eca ∷ 0x65e5 ∷ 0x306f ∷ []) 750 ∷ value_with (0x4eca ∷ 0x65e5 ∷ 0x8449 ∷ []) 1500 ∷ value_with (0x4eac ∷ 0x8449 ∷ []) 1550 ∷ value_with (0x304d ∷ 0x3087 ∷ 0x3046 ∷ 0x306f ∷ []) 16250 ∷ value_with (0x304d ∷ 0x3087 ∷ 0x3046 ∷ 0x8449 ∷ []) 17000 ∷ []) ∷ []
+
+-- 1203 is １２０３, 一二〇三 and 千二百三 too
+abbrev pub DigitsAnswer : Type 0
+DigitsAnswer =
+    (answer set [] [] all_rules digits []).segments ≡ segment_with 0 4 (value_with digits 6200 ∷ value_without (0xff11 ∷ 0xff12 ∷ 0xff10 ∷ 0xff13 ∷ []) ∷ value_without (0x4e00 ∷ 0x4e8c ∷ 0x3007 ∷ 0x4e09 ∷ []) ∷ value_without (0x5343 ∷ 0x4e8c ∷ 0x767e ∷ 0x4e09 ∷ []) ∷ []) ∷ []
+
+-- 10000 is 一万, 11110000 is 千百十一万
+pub record Spelled : Type 0 where
+  pub units : spelled 10000 ≡ 0x4e00 ∷ 0x4e07 ∷ []
+  pub groups : spelled 11110000 ≡ 0x5343 ∷ 0x767e ∷ 0x5341 ∷ 0x4e00 ∷ 0x4e07 ∷ []
+
+-- きょ
+abbrev pub kyo : List ℕ
+kyo = 0x304d ∷ 0x3087 ∷ []
+
+-- for きょ the words 今日 and 京, the cheaper one first
+abbrev pub KyoSuggestions : Type 0
+KyoSuggestions =
+    suggestions set [] kyo ≡ pair_with (0x304d ∷ 0x3087 ∷ 0x3046 ∷ []) (0x4eca ∷ 0x65e5 ∷ []) ∷ pair_with (0x304d ∷ 0x3087 ∷ 0x3046 ∷ []) (0x4eac ∷ []) ∷ []

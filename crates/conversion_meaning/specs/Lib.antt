@@ -17,3 +17,8 @@ pub mod Steps
 pub mod Values
 pub mod Verdicts
 pub mod SmallLattices
+pub mod Firsts
+pub mod Segments
+pub mod Suggestions
+pub mod Rules
+pub mod SegmentLaws

@@ -1,4 +1,4 @@
-ghost use Rattle.conversion_meaning.specs.AnswerLaws.{AnswerIsAnswer, AnswerIsOne, LeastCostsAreLeast, LeastCostsAreOne};
+ghost use Rattle.conversion_meaning.specs.AnswerLaws.{FirstAnswerIsFirst, FirstAnswerIsOne, LeastCostsAreLeast, LeastCostsAreOne};
 
 /// The least costs of a span, as a function, are least costs.
 pub fn least_costs_are_least()
@@ -10,12 +10,12 @@ pub fn least_costs_are_one()
     ensures { LeastCostsAreOne }
 {}
 
-/// The answer to a key has the best path over its lattice, the least costs and the path's cost.
-pub fn answer_is_answer()
-    ensures { AnswerIsAnswer }
+/// The first answer to a key has the best path over its lattice, the least costs and the path's cost.
+pub fn first_answer_is_first()
+    ensures { FirstAnswerIsFirst }
 {}
 
-/// A key has one answer.
-pub fn answer_is_one()
-    ensures { AnswerIsOne }
+/// A key has one first answer.
+pub fn first_answer_is_one()
+    ensures { FirstAnswerIsOne }
 {}

@@ -1,4 +1,4 @@
-ghost use Rattle.conversion_meaning.specs.Examples.{Kyouha, KyouhaCut, KyouhaCutAnswer, KyouhaFaults, KyouhaValues, Mo, MoInOrder, Digits};
+ghost use Rattle.conversion_meaning.specs.Examples.{Kyouha, KyouhaCut, KyouhaAnswer, KyouhaChosen, KyouhaCutAnswer, KyouhaCutLists, KyouhaCutSegments, KyouhaFaults, KyouhaValues, KyoSuggestions, Mo, MoInOrder, Digits, DigitsAnswer, Spelled};
 
 /// きょうは in the example's set: its entries, its best path and the certificate.
 pub fn kyouha()
@@ -38,4 +38,39 @@ pub fn kyouha_values()
 /// The answer to きょうは with a bound after き.
 pub fn kyouha_cut_answer()
     ensures { KyouhaCutAnswer }
+{}
+
+/// The segments of that answer.
+pub fn kyouha_cut_segments()
+    ensures { KyouhaCutSegments }
+{}
+
+/// The answer to きょうは, its segment's candidates with those of the rules.
+pub fn kyouha_answer()
+    ensures { KyouhaAnswer }
+{}
+
+/// The answer with a bound after き.
+pub fn kyouha_cut_lists()
+    ensures { KyouhaCutLists }
+{}
+
+/// The answer to きょうは where 京は was chosen before.
+pub fn kyouha_chosen()
+    ensures { KyouhaChosen }
+{}
+
+/// The answer to a number.
+pub fn digits_answer()
+    ensures { DigitsAnswer }
+{}
+
+/// Numbers with their units.
+pub fn spelled_numbers()
+    ensures { Spelled }
+{}
+
+/// What is suggested for きょ.
+pub fn kyo_suggestions()
+    ensures { KyoSuggestions }
 {}

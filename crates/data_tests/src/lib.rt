@@ -7,8 +7,6 @@ mod certificates;
 #[cfg(test)]
 mod connections;
 #[cfg(test)]
-mod data;
-#[cfg(test)]
 mod dictionary;
 #[cfg(test)]
 mod folds;

@@ -8,8 +8,10 @@ mod entries;
 mod made;
 mod run;
 mod sources;
+mod spans;
 mod value;
 
 pub use cursor::first_from;
 pub use made::build;
+pub use spans::whole;
 pub use value::value_of;

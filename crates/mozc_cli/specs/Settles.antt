@@ -6,7 +6,7 @@ use Rattle.mz_base.specs.Answers.{◌>>=◌}
 use Rattle.mz_base.specs.Data.{DataLists}
 use Rattle.mz_base.specs.declared.lattice.Certificate.{Certificate}
 use Rattle.mz_base.specs.declared.status.CertFault.{CertFault}
-use Rattle.cert_text.specs.Texts.{certificate_text}
+use Rattle.conversion_text.specs.Texts.{conversion_text}
 use Rattle.mz_base.specs.declared.report.Line.{Line}
 use Rattle.mz_base.specs.declared.report.Word.{Word}
 use Rattle.mz_base.specs.declared.report.Word.TheVariants.{Differs}
@@ -76,7 +76,7 @@ check_meant files name = listing files name >>= (λ text. limited (list_output t
 
 -- what the text of a key's answer gives, by a data set with no user words
 abbrev pub answered : List ℕ → List ℕ → DataLists → Result Output Refusal
-answered key bounds set = limited (list_output (certificate_text (answer set [] key bounds)))
+answered key bounds set = limited (list_output (conversion_text key (answer set [] [] [] key bounds)))
 
 -- what converting a key gives: its answer by the data set that is asked
 abbrev pub convert_meant : Files → Query → List ℕ → Result Output Refusal

@@ -5,13 +5,13 @@
 
 mod args;
 mod command;
-mod convert;
 mod laws;
 mod outputs;
 mod program;
 mod run;
 mod session;
 mod statuses;
+mod verdict;
 
 pub use args::Request;
 pub use command::local;

@@ -1,7 +1,6 @@
 ghost use Rattle.std.specs.Prelude.{◌≡◌, ◌≢◌, ◌++◌, ◌<◌, Some, Ok, Err, codes, length};
 ghost use Rattle.std.specs.Fmt.{signed_decimal};
 ghost use Rattle.std.specs.String.{string_bytes};
-ghost use Rattle.cert_text.specs.Texts.{certificate_text};
 ghost use Rattle.conversion_meaning.specs.Lattices.{AreBounds, IsKey};
 ghost use Rattle.report.specs.Names.{AreNamed};
 ghost use Rattle.report.specs.Texts.{report_text};
@@ -13,10 +12,11 @@ ghost use Rattle.mozc_cli.specs.Reported.{shown, TellsMeant};
 ghost use Rattle.mozc_cli.specs.Settles.{Means, MeansVerdict, answered, convert_meant, has_differs, list_output, run_output, run_meant, check_meant, is_unmet, limited, output_of};
 
 use crate::args::Request;
-use crate::convert::{convert, verify};
 use crate::run::serve;
+use crate::verdict::verify;
+use converter::convert;
 use engine::Engine;
-use mz_base::{Certificate, DataSet, Limit, Line, Logs, Refusal, Word};
+use mz_base::{Certificate, DataSet, Limit, Line, Logs, NoUserWords, Refusal, Word};
 use mz_outside::Store;
 use report::{MOST_REPORT_BYTES, PrintError};
 use std::alloc::Global;
@@ -141,8 +141,9 @@ fn converted<D: DataSet>(
     ensures reads_nothing { result ≢ Err Refusal.ReadFault }
 {
     let bounds = bounds.to_vec(alloc)?;
-    let certificate = convert(alloc, set, key, bounds.as_slice())?;
-    let text = cert_text::print(alloc, &certificate)?;
+    let nobody = NoUserWords::new(alloc);
+    let conversion = convert(alloc, set, &nobody, key, bounds.as_slice())?;
+    let text = conversion_text::print(alloc, key, &conversion)?;
     listed(text)
 }
 

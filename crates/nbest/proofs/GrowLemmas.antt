@@ -141,6 +141,14 @@ module _ (d : DataLists) (l : Lattice) (span : Span) (well : IsWellFormed d l) (
       let rest = way-length from (entry l.entries o).begin tail way.2 in
       omega (arith, ahead, rest, way.1)
 
+  -- a tail has no more entries than a key has characters
+  pub length-part : (tail : List ℕ) → IsPart l.entries span tail → length tail ≤ MOST_KEY
+  length-part tail part =
+      let long = way-length (begin_of l.entries span.end tail) span.end tail part.way in
+      let inside = is.inside in
+      let few = well.key.few in
+      omega (arith, long, inside, few)
+
   weigh : (costs : List ℤ) (tail : List ℕ) (join : Join) (most : ℕ) (os : List ℕ) → MOST_KEY + 1 - length tail ≡ suc most → sum_by (weight_of l span) (map (with_entry d l.entries costs tail join) os) ≡ sum_by (λ o. weight_from most l.entries l.by_end span (entry l.entries o).begin) os
   weigh costs tail join most [] left_is = refl
   weigh costs tail join most (o ∷ os) left_is =

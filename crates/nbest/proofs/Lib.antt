@@ -1,3 +1,5 @@
+pub mod CacheLemmas
+pub mod ChainLemmas
 pub mod CostLemmas
 pub mod CountLemmas
 pub mod EndLemmas

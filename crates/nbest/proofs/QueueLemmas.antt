@@ -1,7 +1,7 @@
 -- What a heap of tails says of the endings in it.
 use Rattle.std.proofs.Common.{◌≡◌, refl, sym, ap, ◌∙◌, subst, ℕ, zero, suc, ◌+◌, ◌-◌, ◌<◌, ◌≤◌, Bool, true, false, ltb, inl, inr, List, [], ◌∷◌, ◌++◌, flat_map, Option, Some, None, Result, Ok, Err, length, get_or, set, take, drop, arith, append-nil, append_assoc}
 use Rattle.std.specs.Borrow.{Bor}
-use Rattle.std.specs.Prelude.{◌≢◌, IfSome, MatchOption, IsOk, OnOk}
+use Rattle.std.specs.Prelude.{◌≢◌, ◌*◌, IfSome, MatchOption, IsOk, OnOk}
 use Rattle.std.specs.BinaryHeap.{IsHeap, IsUpperBound, KeepsHeap, PopsGreatest}
 use Rattle.std.specs.List.{All, HoldsAt, swap}
 use Rattle.std.specs.List.Sorted.{IsPermutation}
@@ -12,6 +12,8 @@ use Rattle.std.proofs.lemmas.Bool.Decides.{nat_tests}
 use Rattle.std.proofs.lemmas.List.Sorted.{All-permutation, IsPermutation-append_comm, IsPermutation-append_left, IsPermutation-append_right, IsPermutation-cons, IsPermutation-keeps, IsPermutation-refl, IsPermutation-trans, length_permutation}
 use Rattle.std.proofs.lemmas.Grind.{flat_map-append}
 use Rattle.conversion_meaning.proofs.Lists.{All-from_among, Among, from_flat_map, place_of}
+use Rattle.conversion_meaning.specs.Bounds.{IsWithin}
+use Rattle.viterbi.specs.Table.{most_reached}
 use Rattle.nbest.specs.declared.tail.Tail.{Tail}
 use Rattle.nbest.specs.Tails.{Ending, IsFamily, IsFirstOf, IsInOrder, IsNotBehind, IsQueue, LosesFirst, Replaces, compared, ending, families, family, family_of, no_ending}
 use Rattle.nbest.proofs.FamilyLemmas.{IsNotBehind-from, IsNotBehind-trans}
@@ -160,10 +162,11 @@ module _ (old rest : List (Reverse Tail)) (x : Reverse Tail) (popped : Popped ol
       let parts : IsPermutation (family next ++ families rest) (families new) = subst (λ t. IsPermutation (family t ++ families rest) (families new)) is (IsPermutation-flat_map (λ (t : Reverse Tail). family t.0) (y ∷ rest) new pushed) in
       subst (λ e. IsPermutation (families old) (e ∷ families new)) (sym leads) (IsPermutation-trans _ _ _ (subst (λ es. IsPermutation (families old) (es ++ families rest)) splits families_popped) (IsPermutation-cons (ending x.0) _ _ parts))
 
-pub IsFamily-next : (t next : Tail) → IsFamily t → family t ≡ ending t ∷ family next → 0 < length next.ordinals.items → IsFamily next
+pub IsFamily-next : (t next : Tail) → IsFamily t → family t ≡ ending t ∷ family next → 0 < length next.ordinals → IsFamily next
 IsFamily-next t next is splits some =
     let order : IsInOrder (ending t ∷ family next) = subst (λ es. IsInOrder es) splits is.order in
-    record { some = some; order = order.1 }
+    let small : All (λ (e : Ending). IsWithin (3 * most_reached) e.estimate) (ending t ∷ family next) = subst (λ es. All (λ (e : Ending). IsWithin (3 * most_reached) e.estimate) es) splits is.small in
+    record { some = some; order = order.1; small = λ k d inside. small (suc k) d (omega (arith, inside)) }
 
 -- a tail comes in
 pub IsQueue-pushed : (old new : List (Reverse Tail)) (y : Reverse Tail) → IsQueue old → IsFamily y.0 → IsPermutation (y ∷ old) new → KeepsHeap compared old new → IsQueue new

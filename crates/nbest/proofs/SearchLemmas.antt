@@ -1,5 +1,5 @@
 -- What a search has still to give, as its queue changes.
-use Rattle.std.proofs.Common.{◌≡◌, refl, sym, ap, ◌∙◌, subst, ℕ, ◌+◌, Bool, true, false, cond, ltb, ◌⊎◌, inl, inr, List, [], ◌∷◌, ◌++◌, arith}
+use Rattle.std.proofs.Common.{◌≡◌, refl, sym, ap, ◌∙◌, subst, ℕ, ◌+◌, Bool, true, false, cond, ltb, ◌⊎◌, inl, inr, List, [], ◌∷◌, ◌++◌, Option, arith}
 use Rattle.std.specs.Prelude.{◌≢◌, ℤ, ◌<ℤ◌, ◌||◌, count_by, reverse}
 use Rattle.std.specs.declared.cmp.Ordering.{Ordering}
 use Rattle.std.specs.declared.cmp.Ordering.TheVariants.{Less, Equal, Greater}
@@ -25,6 +25,7 @@ use Rattle.conversion_meaning.proofs.Ordered.{not_before_back}
 use Rattle.conversion_meaning.proofs.Recurrence.{number_cases}
 use Rattle.viterbi.specs.Back.{IsWayBack, cost_back}
 use Rattle.viterbi.proofs.BackLemmas.{IsPath-reverse, IsWayBack-reverse, cost_back-reverse, cost_between-reverse}
+use Rattle.nbest.specs.Lists.{Listed}
 use Rattle.nbest.specs.Searches.{IsSearch, IsTail, begin_of, ends_so, is_front, still_to_come}
 use Rattle.nbest.specs.Tails.{Ending, IsFirstOf, IsNotBehind, no_ending}
 use Rattle.nbest.proofs.CountLemmas.{any_counted, sum_taken, tally}
@@ -106,19 +107,19 @@ module _ (d : DataLists) (l : Lattice) (span : Span) (well : IsWellFormed d l) (
   comes-same old new path same =
       any_counted (ends_so path) old ∙ (ap (ltb 0) (sym same) ∙ sym (any_counted (ends_so path) new))
 
-  pub still_to_come-same : (costs more : List ℤ) (old new : List Ending) → ((path : List ℕ) → IsPathOver l.entries span path → count_by (ends_so path) new ≡ count_by (ends_so path) old) → still_to_come d l.entries (record { span = span; costs = more; queue = new }) ≡ still_to_come d l.entries (record { span = span; costs = costs; queue = old })
+  pub still_to_come-same : (costs more : List ℤ) (cache other : List (Option Listed)) (old new : List Ending) → ((path : List ℕ) → IsPathOver l.entries span path → count_by (ends_so path) new ≡ count_by (ends_so path) old) → still_to_come d l.entries (record { span = span; costs = more; queue = new; cache = other }) ≡ still_to_come d l.entries (record { span = span; costs = costs; queue = old; cache = cache })
   unfolding still_to_come
-  still_to_come-same costs more old new same =
+  still_to_come-same costs more cache other old new same =
       sym (filter-same (λ path. list_any (ends_so path) old) (λ path. list_any (ends_so path) new) (paths_in_order d l.entries span) (λ path h. comes-same old new path (same path (from_paths_in_order d l.entries span path h))))
 
-  pub still_to_come-all : (costs : List ℤ) (queue : List Ending) → ((path : List ℕ) → IsPathOver l.entries span path → count_by (ends_so path) queue ≡ 1) → still_to_come d l.entries (record { span = span; costs = costs; queue = queue }) ≡ paths_in_order d l.entries span
+  pub still_to_come-all : (costs : List ℤ) (cache : List (Option Listed)) (queue : List Ending) → ((path : List ℕ) → IsPathOver l.entries span path → count_by (ends_so path) queue ≡ 1) → still_to_come d l.entries (record { span = span; costs = costs; queue = queue; cache = cache }) ≡ paths_in_order d l.entries span
   unfolding still_to_come
-  still_to_come-all costs queue one =
+  still_to_come-all costs cache queue one =
       filter-all (λ path. list_any (ends_so path) queue) (paths_in_order d l.entries span) (λ path h. any_counted (ends_so path) queue ∙ ap (ltb 0) (one path (from_paths_in_order d l.entries span path h)))
 
-  pub still_to_come-none : (costs : List ℤ) → still_to_come d l.entries (record { span = span; costs = costs; queue = [] }) ≡ []
+  pub still_to_come-none : (costs : List ℤ) (cache : List (Option Listed)) → still_to_come d l.entries (record { span = span; costs = costs; queue = []; cache = cache }) ≡ []
   unfolding still_to_come
-  still_to_come-none costs = filter-none (paths_in_order d l.entries span)
+  still_to_come-none costs cache = filter-none (paths_in_order d l.entries span)
 
   -- ---- A whole tail that is first
 
@@ -206,7 +207,7 @@ module _ (d : DataLists) (l : Lattice) (span : Span) (well : IsWellFormed d l) (
             let t = tie.0 in
             absurd (omega (arith, ints, a, b, c, t, more))
 
-    module _ (costs : List ℤ) (old new : List Ending) (search : IsSearch d l (record { span = span; costs = costs; queue = old })) (first : IsFirstOf old e) (taken : IsPermutation old (e ∷ new)) where
+    module _ (costs : List ℤ) (cache : List (Option Listed)) (old new : List Ending) (search : IsSearch d l (record { span = span; costs = costs; queue = old; cache = cache })) (first : IsFirstOf old e) (taken : IsPermutation old (e ∷ new)) where
       one_less : (p : List ℕ) → count_by (ends_so p) new + tally (ends_so p e) ≡ count_by (ends_so p) old
       one_less p = sum_taken (λ x. cond (ends_so p x) 1 0) old e new taken
 
@@ -232,7 +233,7 @@ module _ (d : DataLists) (l : Lattice) (span : Span) (well : IsWellFormed d l) (
           by_test false yields h more = let r = more h in (r.0, inr r.1, r.2)
 
       -- it is the first of what is still to come, and the rest remains
-      pub still_to_come-taken : still_to_come d l.entries (record { span = span; costs = costs; queue = old }) ≡ reverse e.ordinals ∷ still_to_come d l.entries (record { span = span; costs = costs; queue = new })
+      pub still_to_come-taken : still_to_come d l.entries (record { span = span; costs = costs; queue = old; cache = cache }) ≡ reverse e.ordinals ∷ still_to_come d l.entries (record { span = span; costs = costs; queue = new; cache = cache })
       unfolding still_to_come
       still_to_come-taken =
           first_kept (IsBefore d l.entries span) (not_before_back d l.entries span) (apart d l.entries span) (λ p. list_any (ends_so p) old) (λ p. list_any (ends_so p) new) (reverse e.ordinals) (paths_in_order d l.entries span) (Rises-paths_in_order d l.entries span) (Among-paths_in_order d l.entries span forward (reverse e.ordinals) joined) (any_counted (ends_so (reverse e.ordinals)) old ∙ ap (ltb 0) own_count.0) (any_counted (ends_so (reverse e.ordinals)) new ∙ ap (ltb 0) own_count.1) (λ p h comes differ. before p (from_paths_in_order d l.entries span p h) differ (from_comes p old comes)) (λ p h differ. sym (comes-same old new p (kept_count p (from_paths_in_order d l.entries span p h) differ)))

@@ -11,6 +11,7 @@ use Rattle.mz_base.specs.declared.lattice.Span.{Span}
 use Rattle.mz_base.specs.declared.user.UserRow.{UserRow}
 use Rattle.conversion_meaning.specs.Bounds.{IsWithin, most_path}
 use Rattle.conversion_meaning.specs.Candidates.{candidate_of, differs_from, first_of_each, first_values, path_value}
+use Rattle.conversion_meaning.specs.Firsts.{firsts}
 use Rattle.conversion_meaning.specs.InOrder.{paths_in_order}
 use Rattle.conversion_meaning.specs.Paths.{IsPath, IsPathOver, IsSpan, path_cost}
 use Rattle.conversion_meaning.specs.declared.candidates.TheConstants.{MOST_PATHS, MOST_VALUES}
@@ -77,7 +78,7 @@ dropped_old values c rest is =
 
 -- the step: a candidate that is new is added, and one that is not is left out
 pub gathered : (values : List Candidate) (c : Candidate) (rest whole : List Candidate) → values ++ filter (news values) (first_of_each (c ∷ rest)) ≡ whole → (values ++ cond (news values c) (c ∷ []) []) ++ filter (news (values ++ cond (news values c) (c ∷ []) [])) (first_of_each rest) ≡ whole
-unfolding first_of_each
+unfolding firsts
 gathered values c rest whole h = by_test (news values c) refl
   where
     by_test : (b : Bool) → news values c ≡ b → (values ++ cond b (c ∷ []) []) ++ filter (news (values ++ cond b (c ∷ []) [])) (first_of_each rest) ≡ whole
@@ -135,7 +136,7 @@ module _ (d : DataLists) (rows : List UserRow) (l : Lattice) (span : Span) where
 
   -- no more paths
   pub first_values-all : (values : List Candidate) (n : ℕ) (paths : List (List ℕ)) → IsGathered values n paths → take n paths ≡ [] → values ≡ first_values d rows l.key l.entries span
-  unfolding first_values first_of_each
+  unfolding first_values firsts
   first_values-all values n paths is none =
       let e : values ++ filter (news values) (first_of_each (candidates n paths)) ≡ values ++ [] = ap (λ ps. values ++ filter (news values) (first_of_each (map (candidate_of d rows l.key l.entries span) ps))) none in
       let whole : values ≡ first_of_each (candidates MOST_PATHS (paths_in_order d l.entries span)) = sym (append-nil values) ∙ (sym e ∙ is.made) in

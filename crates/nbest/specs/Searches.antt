@@ -1,7 +1,7 @@
 -- What a search has still to give, and what it keeps.
-use Rattle.std.specs.Prelude.{◌≡◌, ℕ, ◌-◌, ◌<◌, ◌≤◌, ◌==◌, ℤ, pos, ◌+ℤ◌, ◌≤ℤ◌, Bool, true, false, not, ◌&&◌, List, [], ◌∷◌, ◌++◌, All, filter, length, map, nat_le, reverse, slice_index, slice_index_or, count_by, Option, IfNone, IfSome}
+use Rattle.std.specs.Prelude.{◌≡◌, ⊤, ℕ, ◌-◌, ◌*◌, ◌<◌, ◌≤◌, ◌==◌, ℤ, pos, ◌+ℤ◌, ◌≤ℤ◌, Bool, true, false, not, ◌&&◌, List, [], ◌∷◌, ◌++◌, All, filter, length, map, nat_le, reverse, slice_index, slice_index_or, count_by, Option, Some, None, IfNone, IfSome}
 use Rattle.std.specs.List.{list_any, slice_get}
-use Rattle.std.specs.List.Sorted.{IsPermutation}
+use Rattle.std.specs.List.Sorted.{IsPermutation, IsSorted}
 use Rattle.std.specs.Option.{option_map}
 use Rattle.mz_base.specs.Data.{DataLists, connection}
 use Rattle.mz_base.specs.declared.lattice.Entry.{Entry}
@@ -14,16 +14,19 @@ use Rattle.conversion_meaning.specs.Paths.{IsPathOver, IsSpan, path_cost}
 use Rattle.conversion_meaning.specs.Potentials.{IsLeastCost, is_in}
 use Rattle.viterbi.specs.Back.{IsWayBack, cost_back}
 use Rattle.viterbi.specs.Table.{most_reached}
-use Rattle.nbest.specs.Tails.{Ending, IsFirstOf, begun_by, no_ending}
+use Rattle.nbest.specs.Lists.{Listed}
+use Rattle.nbest.specs.Tails.{Ending, IsFirstOf, begun_by, no_ending, sibling_cmp}
 use Rattle.nbest.specs.declared.tail.Sibling.{Sibling}
 use Rattle.nbest.specs.declared.join.Join.{Join}
 use Rattle.nbest.specs.declared.found.Found.{Found}
 
--- a search: its span, the least costs of the entries by ordinal, and the tails that it has not looked at
+-- a search: its span, the least costs of the entries by ordinal, the tails that it has not looked at, and what it has
+-- sorted
 pub record Search : Type 0 where
   pub span : Span
   pub costs : List ℤ
   pub queue : List Ending
+  pub cache : List (Option Listed)
 
 -- ---- What is still to come
 
@@ -91,13 +94,6 @@ pub record AreCosts (d : DataLists) (es : List Entry) (span : Span) (costs : Lis
   pub least : (o : ℕ) → o < length es → is_in span (entry es o) ≡ true → IsLeastCost d es span o (slice_index_or costs o (pos 0))
   pub small : (o : ℕ) → o < length costs → IsWithin most_reached (slice_index_or costs o (pos 0))
 
--- A search of a lattice: its costs and tails are those of its span, and no path ends with two of its tails.
-pub record IsSearch (d : DataLists) (l : Lattice) (s : Search) : Type 0 where
-  pub span : IsSpan d l s.span
-  pub costs : AreCosts d l.entries s.span s.costs
-  pub tails : All (IsTail d l.entries s.span) s.queue
-  pub once : (path : List ℕ) → IsPathOver l.entries s.span path → count_by (ends_so path) s.queue ≤ 1
-
 -- ---- How tails grow
 
 -- the tail does not begin with the span
@@ -115,6 +111,12 @@ pub record IsJoin (d : DataLists) (es : List Entry) (span : Span) (tail : List �
   pub lid_is : join.lid ≡ lid_of es span.right tail
   pub rest_is : join.rest ≡ rest_of d es span.right tail
 
+-- the same, within the bounds of what it is used for
+pub record IsJoinOf (d : DataLists) (es : List Entry) (span : Span) (tail : List ℕ) (join : Join) : Type 0 where
+  pub is : IsJoin d es span tail join
+  pub lid : join.lid < d.ids
+  pub rest : IsWithin most_reached join.rest
+
 -- where an entry ends
 abbrev pub end_of : List Entry → ℕ → ℕ
 end_of es o = (entry es o).end
@@ -124,24 +126,48 @@ abbrev pub ordinals_to : List Entry → List ℕ → Span → ℕ → List ℕ
 ordinals_to es by_end span here =
     filter (λ o. ((entry es o).end == here) && nat_le span.begin (entry es o).begin) by_end
 
--- an entry that a tail can be longer by, and the estimate of the longer tail
-abbrev pub sibling : DataLists → List Entry → List ℤ → Join → ℕ → Sibling
-sibling d es costs join o =
-    record { estimate = (slice_index_or costs o (pos 0) +ℤ connection d (entry es o).rid join.lid) +ℤ join.rest; ordinal = o }
+-- an entry that a tail can be longer by, and what it adds before this left id
+abbrev pub sibling : DataLists → List Entry → List ℤ → ℕ → ℕ → Sibling
+sibling d es costs lid o =
+    record { added = slice_index_or costs o (pos 0) +ℤ connection d (entry es o).rid lid; ordinal = o }
 
 -- all of them, in the order of ends
-abbrev pub siblings : DataLists → Lattice → Span → List ℤ → Join → List Sibling
-siblings d l span costs join =
-    map (sibling d l.entries costs join) (ordinals_to l.entries l.by_end span join.begin)
+abbrev pub siblings : DataLists → Lattice → Span → List ℤ → ℕ → ℕ → List Sibling
+siblings d l span costs begin lid =
+    map (sibling d l.entries costs lid) (ordinals_to l.entries l.by_end span begin)
+
+-- these are all, by what they add and then by ordinal
+pub record AreSiblings (d : DataLists) (l : Lattice) (span : Span) (costs : List ℤ) (begin lid : ℕ) (ss : List Sibling) : Type 0 where
+  pub are : IsPermutation (siblings d l span costs begin lid) ss
+  pub order : IsSorted sibling_cmp ss
+  pub small : All (λ (s : Sibling). IsWithin (2 * most_reached) s.added) ss
 
 -- a tail with one entry more
 abbrev pub with_entry : DataLists → List Entry → List ℤ → List ℕ → Join → ℕ → Ending
-with_entry d es costs tail join o = begun_by tail (sibling d es costs join o)
+with_entry d es costs tail join o = begun_by tail join.rest (sibling d es costs join.lid o)
 
 -- the tails that are longer by one entry
 abbrev pub longer_tails : DataLists → Lattice → Span → List ℤ → List ℕ → Join → List Ending
 longer_tails d l span costs tail join =
     map (with_entry d l.entries costs tail join) (ordinals_to l.entries l.by_end span join.begin)
+
+-- what a slot keeps is so for its position and its left id
+abbrev pub IsKept : DataLists → Lattice → Span → List ℤ → Option Listed → Type 0
+IsKept d l span costs None = ⊤
+IsKept d l span costs (Some k) = AreSiblings d l span costs k.begin k.lid k.siblings
+
+abbrev pub AreKept : DataLists → Lattice → Span → List ℤ → List (Option Listed) → Type 0
+AreKept d l span costs cache = All (IsKept d l span costs) cache
+
+-- ---- A search as a whole
+
+-- A search of a lattice: its costs, tails and lists are those of its span, and no path ends with two of its tails.
+pub record IsSearch (d : DataLists) (l : Lattice) (s : Search) : Type 0 where
+  pub span : IsSpan d l s.span
+  pub costs : AreCosts d l.entries s.span s.costs
+  pub tails : All (IsTail d l.entries s.span) s.queue
+  pub once : (path : List ℕ) → IsPathOver l.entries s.span path → count_by (ends_so path) s.queue ≤ 1
+  pub cache : AreKept d l s.span s.costs s.cache
 
 -- these are the tails that are longer by one entry than the first
 pub record AreLonger (d : DataLists) (l : Lattice) (s : Search) (tails : List Ending) : Type 0 where
@@ -166,5 +192,6 @@ found_from e = record { path = reverse e.ordinals; cost = e.estimate }
 pub record Gives (old new : Search) (found : Option Found) : Type 0 where
   pub span : new.span ≡ old.span
   pub costs : new.costs ≡ old.costs
+  pub cache : new.cache ≡ old.cache
   pub none : IfNone found (new.queue ≡ old.queue × (old.queue ≡ []))
   pub some : IfSome found (λ f. (e : Ending) × IsFirstOf old.queue e × IsPermutation old.queue (e ∷ new.queue) × (f ≡ found_from e))

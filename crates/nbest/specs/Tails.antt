@@ -1,5 +1,6 @@
 -- The last entries of paths, and their order in a search.
-use Rattle.std.specs.Prelude.{◌≡◌, ◌≢◌, ℕ, ℤ, pos, ◌-◌, ◌<◌, ◌<ℤ◌, ◌⊎◌, ⊤, List, [], ◌∷◌, ◌++◌, All, Option, Some, None, drop, length, map, slice_index_or, take}
+use Rattle.std.specs.Prelude.{◌≡◌, ◌≢◌, ℕ, ℤ, pos, ◌+ℤ◌, ◌-◌, ◌*◌, ◌<◌, ◌<ℤ◌, ◌⊎◌, ⊤, List, [], ◌∷◌, ◌++◌, All, Option, Some, None, drop, length, map, slice_index_or, take}
+use Rattle.std.specs.Arc.{arc_value}
 use Rattle.std.specs.BinaryHeap.{IsHeap}
 use Rattle.std.specs.Cmp.Lexicographic.{slice_cmp}
 use Rattle.std.specs.List.{flat_map}
@@ -8,6 +9,8 @@ use Rattle.std.specs.Ordering.{int_cmp, nat_cmp, ordering_then}
 use Rattle.std.specs.declared.cmp.Ordering.{Ordering}
 use Rattle.std.specs.declared.cmp.Ordering.TheVariants.{Greater}
 use Rattle.std.specs.declared.cmp.Reverse.{Reverse}
+use Rattle.conversion_meaning.specs.Bounds.{IsWithin}
+use Rattle.viterbi.specs.Table.{most_reached}
 use Rattle.nbest.specs.declared.tail.Sibling.{Sibling}
 use Rattle.nbest.specs.declared.tail.Tail.{Tail}
 
@@ -30,9 +33,9 @@ IsInOrder (e ∷ rest) = All (IsNotBehind e) rest × IsInOrder rest
 
 -- ---- A tail and its siblings
 
--- the tail that is longer by this first entry
-abbrev pub begun_by : List ℕ → Sibling → Ending
-begun_by tail s = record { estimate = s.estimate; ordinals = tail ++ s.ordinal ∷ [] }
+-- the tail that is longer by this first entry; it costs so much without what the entry adds
+abbrev pub begun_by : List ℕ → ℤ → Sibling → Ending
+begun_by tail rest s = record { estimate = s.added +ℤ rest; ordinals = tail ++ s.ordinal ∷ [] }
 
 -- the ordinals but the first entry's
 abbrev pub but_first : List ℕ → List ℕ
@@ -40,20 +43,25 @@ but_first ordinals = take (length ordinals - 1) ordinals
 
 -- a tail as such
 abbrev pub ending : Tail → Ending
-ending t = record { estimate = t.estimate; ordinals = t.ordinals.items }
+ending t = record { estimate = t.estimate; ordinals = t.ordinals }
+
+-- what may stand in the place of a tail's first entry
+abbrev pub siblings_of : Tail → List Sibling
+siblings_of t = (arc_value t.siblings).items
 
 -- a tail and those behind it that differ in the first entry alone
 abbrev pub family : Tail → List Ending
-family t = ending t ∷ map (begun_by (but_first t.ordinals.items)) (drop t.next t.siblings.items)
+family t = ending t ∷ map (begun_by (but_first t.ordinals) t.rest) (drop t.next (siblings_of t))
 
 abbrev pub family_of : Option Tail → List Ending
 family_of None = []
 family_of (Some t) = family t
 
--- it has an entry, and its siblings are in order
+-- it has an entry, its siblings are in order, and no estimate is too large to add
 pub record IsFamily (t : Tail) : Type 0 where
-  pub some : 0 < length t.ordinals.items
+  pub some : 0 < length t.ordinals
   pub order : IsInOrder (family t)
+  pub small : All (λ (e : Ending). IsWithin (3 * most_reached) e.estimate) (family t)
 
 -- ---- What a queue holds
 
@@ -63,12 +71,12 @@ families tails = flat_map (λ (t : Reverse Tail). family t.0) tails
 
 abbrev pub sibling_cmp : Sibling → Sibling → Ordering
 sibling_cmp x y =
-    ordering_then (int_cmp x.estimate y.estimate) (nat_cmp x.ordinal y.ordinal)
+    ordering_then (int_cmp x.added y.added) (nat_cmp x.ordinal y.ordinal)
 
 -- the order of the heap, whose greatest tail is the first; the siblings would only part tails that are the same
 abbrev pub compared : Reverse Tail → Reverse Tail → Ordering
 compared x y =
-    ordering_then (int_cmp y.0.estimate x.0.estimate) (ordering_then (slice_cmp nat_cmp y.0.ordinals.items x.0.ordinals.items) (ordering_then (slice_cmp sibling_cmp y.0.siblings.items x.0.siblings.items) (nat_cmp y.0.next x.0.next)))
+    ordering_then (int_cmp y.0.estimate x.0.estimate) (ordering_then (slice_cmp nat_cmp y.0.ordinals x.0.ordinals) (ordering_then (slice_cmp sibling_cmp (siblings_of y.0) (siblings_of x.0)) (ordering_then (nat_cmp y.0.next x.0.next) (int_cmp y.0.rest x.0.rest))))
 
 pub record IsQueue (tails : List (Reverse Tail)) : Type 0 where
   pub heap : IsHeap compared tails

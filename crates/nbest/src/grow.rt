@@ -1,88 +1,96 @@
-ghost use Rattle.std.specs.Prelude.{◌≡◌, ℕ, ◌<◌, ◌==◌, pos, ◌+ℤ◌, IfOk, IfSome, filter, length, map, slice_index_or};
-ghost use Rattle.std.specs.List.Sorted.{IsNonDecreasingBy, IsPermutation, IsSorted};
+ghost use Rattle.std.specs.Prelude.{◌≡◌, ℕ, ◌<◌, ◌≤◌, ◌==◌, ◌*◌, pos, ◌+ℤ◌, All, IfOk, IfSome, filter, length, map, slice_index_or};
+ghost use Rattle.std.specs.Arc.{arc_value};
+ghost use Rattle.std.specs.List.Sorted.{IsNonDecreasingBy, IsSorted};
 ghost use Rattle.mz_base.specs.Data.{connection};
+ghost use Rattle.mz_base.specs.declared.lattice.TheConstants.{MOST_KEY};
 ghost use Rattle.conversion_meaning.specs.Bounds.{IsWithin};
 ghost use Rattle.conversion_meaning.specs.Lattices.{IsWellFormed, entry};
 ghost use Rattle.viterbi.specs.Table.{most_reached};
-ghost use Rattle.nbest.specs.Searches.{end_of, longer_tails, sibling, siblings};
+ghost use Rattle.nbest.specs.Chains.{ordinals_of};
+ghost use Rattle.nbest.specs.Searches.{AreSiblings, end_of, sibling, siblings};
 ghost use Rattle.nbest.specs.Tails.{IsFamily, begun_by, family_of, sibling_cmp};
 
+use crate::chain::Chain;
+use crate::costs::Costs;
 use crate::join::Join;
 use crate::tail::{Sibling, Tail};
 use mz_base::{DataSet, Entry, Lattice, NoMemory, Span};
 use std::alloc::Global;
+use std::sync::Arc;
 
-/// The first of the tails that are longer by one entry, with the others as its siblings.
-pub fn longer_tail<D: DataSet>(
+/// A tail that is longer by the first of these siblings, with the others behind it; none where there are none. `rest` is
+/// what it costs without what its first entry adds.
+pub fn begun_by_first(
     alloc: Global,
-    set: &D,
-    lattice: &Lattice,
-    span: &Span,
-    costs: &[i64],
-    tail: &[u32],
-    join: &Join,
+    tail: Option<&Chain>,
+    rest: i64,
+    siblings: Arc<Vec<Sibling>>,
 ) -> Result<Option<Tail>, NoMemory>
-    requires well { IsWellFormed (D.lists set.now) lattice.now }
-    requires count { length costs.now ≡ length lattice.now.entries }
-    requires small { (o : ℕ) → o < length costs.now → IsWithin most_reached (slice_index_or costs.now o (pos 0)) }
-    requires lid { join.now.lid < (D.lists set.now).ids }
-    requires rest { IsWithin most_reached join.now.rest }
+    requires order { IsSorted sibling_cmp (arc_value siblings).items }
+    requires small { All (λ (s : Sibling). IsWithin (2 * most_reached) s.added) (arc_value siblings).items }
+    requires rest { IsWithin most_reached rest }
+    requires few { length (ordinals_of tail) ≤ MOST_KEY }
     ensures family { IfOk result (λ longer. IfSome longer IsFamily) }
-    ensures all { IfOk result (λ longer. IsPermutation (longer_tails (D.lists set.now) lattice.now span.now costs.now tail.now join.now) (family_of longer)) }
+    ensures all { IfOk result (λ longer. family_of longer ≡ map (begun_by (ordinals_of tail.entry) rest) (arc_value siblings).items) }
 {
-    let mut siblings = siblings(alloc, set, lattice, span, costs, join)?;
-    siblings.sort_unstable();
-    begun_by_first(alloc, tail, siblings)
+    let Some(first) = siblings.as_slice().first() else {
+        return Ok(None);
+    };
+    let Sibling { added, ordinal } = *first;
+    let ordinals = Chain::begun_by(alloc, ordinal, tail)?;
+    Ok(Some(Tail {
+        estimate: added + rest,
+        ordinals,
+        siblings,
+        next: 1,
+        rest,
+    }))
 }
 
-/// The entries that a tail can be longer by, in no order.
-fn siblings<D: DataSet>(
+/// The entries that a tail can be longer by at a join, by what they add, then by ordinal.
+pub fn sorted_siblings<D: DataSet>(
     alloc: Global,
     set: &D,
     lattice: &Lattice,
     span: &Span,
-    costs: &[i64],
+    costs: &Costs,
     join: &Join,
 ) -> Result<Vec<Sibling>, NoMemory>
     requires well { IsWellFormed (D.lists set.now) lattice.now }
     requires count { length costs.now ≡ length lattice.now.entries }
     requires small { (o : ℕ) → o < length costs.now → IsWithin most_reached (slice_index_or costs.now o (pos 0)) }
     requires lid { join.now.lid < (D.lists set.now).ids }
-    requires rest { IsWithin most_reached join.now.rest }
-    ensures { IfOk result (λ made. made.items ≡ siblings (D.lists set.now) lattice.now span.now costs.now join.now) }
+    ensures { IfOk result (λ sorted. AreSiblings (D.lists set.now) lattice.now span.now costs.now join.now.begin join.now.lid sorted.items) }
+{
+    let mut siblings = siblings(alloc, set, lattice, span, costs, join)?;
+    siblings.sort_unstable();
+    Ok(siblings)
+}
+
+/// The same entries, in no order.
+fn siblings<D: DataSet>(
+    alloc: Global,
+    set: &D,
+    lattice: &Lattice,
+    span: &Span,
+    costs: &Costs,
+    join: &Join,
+) -> Result<Vec<Sibling>, NoMemory>
+    requires well { IsWellFormed (D.lists set.now) lattice.now }
+    requires count { length costs.now ≡ length lattice.now.entries }
+    requires small { (o : ℕ) → o < length costs.now → IsWithin most_reached (slice_index_or costs.now o (pos 0)) }
+    requires lid { join.now.lid < (D.lists set.now).ids }
+    ensures all { IfOk result (λ made. made.items ≡ siblings (D.lists set.now) lattice.now span.now costs.now join.now.begin join.now.lid) }
+    ensures small { IfOk result (λ made. All (λ (s : Sibling). IsWithin (2 * most_reached) s.added) made.items) }
 {
     let entries = lattice.entries.as_slice();
     let mut siblings = Vec::new(alloc);
     for ordinal in ending_at(entries, lattice.by_end.as_slice(), join.begin) {
         if span.begin <= entries[*ordinal as usize].begin {
-            siblings.push(sibling(set, entries, costs, join, *ordinal))?;
+            siblings.push(sibling(set, entries, costs, join.lid, *ordinal))?;
         }
     }
     Ok(siblings)
-}
-
-/// A tail that is longer by the first of these siblings; none where there are none.
-fn begun_by_first(
-    alloc: Global,
-    tail: &[u32],
-    siblings: Vec<Sibling>,
-) -> Result<Option<Tail>, NoMemory>
-    requires { IsSorted sibling_cmp siblings.items }
-    ensures family { IfOk result (λ longer. IfSome longer IsFamily) }
-    ensures all { IfOk result (λ longer. family_of longer ≡ map (begun_by tail.now) siblings.items) }
-{
-    let Some(first) = siblings.as_slice().first() else {
-        return Ok(None);
-    };
-    let Sibling { estimate, ordinal } = *first;
-    let mut ordinals = Vec::from_slice(alloc, tail)?;
-    ordinals.push(ordinal)?;
-    Ok(Some(Tail {
-        estimate,
-        ordinals,
-        siblings,
-        next: 1,
-    }))
 }
 
 /// The ordinals of the entries that end at a position: they stand together in the order of ends.
@@ -107,32 +115,25 @@ fn end_of(entries: &[Entry], ordinal: u32) -> u16
 }
 
 /// An entry that a tail can be longer by.
-fn sibling<D: DataSet>(
-    set: &D,
-    entries: &[Entry],
-    costs: &[i64],
-    join: &Join,
-    ordinal: u32,
-) -> Sibling
+fn sibling<D: DataSet>(set: &D, entries: &[Entry], costs: &Costs, lid: u16, ordinal: u32) -> Sibling
     requires inside { ordinal < length entries.now }
     requires count { length costs.now ≡ length entries.now }
     requires rid { (entry entries.now ordinal).rid < (D.lists set.now).ids }
-    requires lid { join.now.lid < (D.lists set.now).ids }
+    requires lid { lid < (D.lists set.now).ids }
     requires cost { IsWithin most_reached (slice_index_or costs.now ordinal (pos 0)) }
-    requires rest { IsWithin most_reached join.now.rest }
-    ensures { result ≡ sibling (D.lists set.now) entries.now costs.now join.now ordinal }
+    ensures is { result ≡ sibling (D.lists set.now) entries.now costs.now lid ordinal }
+    ensures small { IsWithin (2 * most_reached) result.added }
 {
-    let connection = set.conn(entries[ordinal as usize].rid, join.lid);
+    let connection = set.conn(entries[ordinal as usize].rid, lid);
     Sibling {
-        estimate: estimate(costs[ordinal as usize], connection, join),
+        added: added(costs.at(ordinal), connection),
         ordinal,
     }
 }
 
-fn estimate(cost: i64, connection: i32, join: &Join) -> i64
-    requires cost { IsWithin most_reached cost }
-    requires rest { IsWithin most_reached join.now.rest }
-    ensures { result ≡ (cost +ℤ connection) +ℤ join.now.rest }
+fn added(cost: i64, connection: i32) -> i64
+    requires { IsWithin most_reached cost }
+    ensures { result ≡ cost +ℤ connection }
 {
-    cost + i64::from(connection) + join.rest
+    cost + i64::from(connection)
 }

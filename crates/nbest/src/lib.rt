@@ -2,6 +2,8 @@
 //! [`distinct`]. What the order of paths and the values of a span are: `conversion_meaning`, and docs/CONVERSION.md.
 #![tactic(auto)]
 
+mod cache;
+mod chain;
 mod costs;
 mod found;
 mod grow;

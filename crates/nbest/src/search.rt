@@ -1,29 +1,37 @@
-ghost use Rattle.std.specs.Prelude.{◌≡◌, ◌<◌, true, All, IfOk, IfSome, OnErr, OnOk, drop, length, reverse};
+ghost use Rattle.std.specs.Prelude.{◌≡◌, ◌<◌, ◌≤◌, ◌*◌, true, All, IfOk, IfSome, OnErr, OnOk, drop, length, map, slice_index_or};
+ghost use Rattle.std.specs.Arc.{arc_value};
+ghost use Rattle.std.specs.List.Sorted.{IsSorted};
+ghost use Rattle.mz_base.specs.declared.lattice.TheConstants.{MOST_KEY};
+ghost use Rattle.conversion_meaning.specs.Bounds.{IsWithin};
 ghost use Rattle.conversion_meaning.specs.InOrder.{paths_in_order};
 ghost use Rattle.conversion_meaning.specs.Lattices.{IsWellFormed};
 ghost use Rattle.conversion_meaning.specs.Paths.{IsSpan};
 ghost use Rattle.conversion_meaning.specs.Potentials.{AreLeastCosts};
-ghost use Rattle.nbest.specs.Searches.{AreLonger, AreThere, Gives, IsSearch, first_found, is_open, still_to_come};
-ghost use Rattle.nbest.specs.Tails.{Ending, IsFamily, family_of};
+ghost use Rattle.viterbi.specs.Table.{most_reached};
+ghost use Rattle.nbest.specs.Searches.{AreThere, Gives, IsJoinOf, IsSearch, first_found, is_open, still_to_come};
+ghost use Rattle.nbest.specs.Tails.{Ending, IsFamily, begun_by, family_of, no_ending, sibling_cmp};
 ghost use Rattle.nbest.specs.Weights.{weight};
 
-use crate::costs::costs_by_ordinal;
+use crate::cache::Cache;
+use crate::costs::Costs;
 use crate::found::Found;
-use crate::grow::longer_tail;
+use crate::grow::begun_by_first;
 use crate::join::{Join, begin_of, join_of};
 use crate::queue::Queue;
-use crate::tail::Tail;
+use crate::tail::{Sibling, Tail};
 use mz_base::{Certificate, DataSet, Entry, Lattice, NoMemory, Seq, Span};
 use std::alloc::Global;
 use std::marker::Model;
+use std::sync::Arc;
 
 /// A search for all paths over a span of a lattice, in order.
 #[derive(Drop)]
 pub struct NBest {
     alloc: Global,
     span: Span,
-    costs: Vec<i64>,
+    costs: Costs,
     queue: Queue,
+    cache: Cache,
 }
 
 impl Model for NBest {
@@ -31,7 +39,7 @@ impl Model for NBest {
 
     ghost Value = { Search };
 
-    ghost view = { λ s. record { span = s.span; costs = s.costs.items; queue = s.queue } };
+    ghost view = { λ s. record { span = s.span; costs = s.costs; queue = s.queue; cache = s.cache } };
 }
 
 impl NBest {
@@ -53,18 +61,21 @@ impl NBest {
         ensures all { IfOk result (λ s. still_to_come (D.lists set.now) lattice.now.entries s ≡ paths_in_order (D.lists set.now) lattice.now.entries span.now) }
     {
         let entries = lattice.entries.as_slice();
-        let costs = costs_by_ordinal(alloc, entries, span, solved.potentials.as_slice())?;
+        let costs = Costs::from_potentials(alloc, entries, span, solved.potentials.as_slice())?;
         let end = Join {
             begin: span.end,
             lid: span.right,
             rest: 0,
         };
-        let last = longer_tail(alloc, set, lattice, span, costs.as_slice(), &[], &end)?;
+        let mut cache = Cache::new(alloc, span)?;
+        let siblings = cache.siblings_at(alloc, set, lattice, span, &costs, &end)?;
+        let last = begun_by_first(alloc, None, end.rest, siblings)?;
         Ok(NBest {
             alloc,
             span: *span,
             costs,
             queue: Queue::of(alloc, last)?,
+            cache,
         })
     }
 
@@ -115,37 +126,25 @@ impl NBest {
         ensures span { self.new.span ≡ self.old.span }
         ensures less { OnOk result (weight lattice.now self.new.span self.new.queue < weight lattice.now self.old.span self.old.queue) }
     {
-        let longer = self.longer_than_first(set, lattice)?;
+        let join = self.join_of_first(set, lattice);
+        let siblings = self
+            .cache
+            .siblings_at(self.alloc, set, lattice, &self.span, &self.costs, &join)?;
+        let longer = longer_than_first(self.alloc, &self.queue, join.rest, siblings)?;
         self.queue.replace_first(longer)
     }
 
-    /// The tails that are longer by one entry than the first one.
-    fn longer_than_first<D: DataSet>(
-        &self,
-        set: &D,
-        lattice: &Lattice,
-    ) -> Result<Option<Tail>, NoMemory>
+    /// The join of the first tail.
+    fn join_of_first<D: DataSet>(&self, set: &D, lattice: &Lattice) -> Join
         requires well { IsWellFormed (D.lists set.now) lattice.now }
         requires search { IsSearch (D.lists set.now) lattice.now self.now }
         requires some { 0 < length self.now.queue }
-        ensures family { IfOk result (λ longer. IfSome longer IsFamily) }
-        ensures longer { IfOk result (λ longer. AreLonger (D.lists set.now) lattice.now self.now (family_of longer)) }
+        ensures { IsJoinOf (D.lists set.now) lattice.now.entries self.now.span (slice_index_or self.now.queue 0 no_ending).ordinals result }
     {
         let Some(first) = self.queue.first() else {
             unreachable!();
         };
-        let tail = &first.0;
-        let costs = self.costs.as_slice();
-        let join = join_of(lattice.entries.as_slice(), costs, tail);
-        longer_tail(
-            self.alloc,
-            set,
-            lattice,
-            &self.span,
-            costs,
-            tail.ordinals.as_slice(),
-            &join,
-        )
+        join_of(lattice.entries.as_slice(), &self.costs, &first.0)
     }
 
     /// Takes the first tail as a path. Room is made before anything changes.
@@ -162,7 +161,8 @@ impl NBest {
             ..
         } = &first.0;
         let cost = *estimate;
-        let path = reversed(Vec::from_slice(self.alloc, ordinals.as_slice())?);
+        let mut path = Vec::new(self.alloc);
+        ordinals.add_to(&mut path)?;
         self.queue.drop_first();
         Ok(Some(Found {
             path: Seq::from_vec(path),
@@ -171,9 +171,23 @@ impl NBest {
     }
 }
 
-fn reversed(mut path: Vec<u32>) -> Vec<u32>
-    ensures { result.items ≡ reverse path.items }
+/// The tails that are longer than the first one by each of these entries: the first of them, with its siblings.
+fn longer_than_first(
+    alloc: Global,
+    queue: &Queue,
+    rest: i64,
+    siblings: Arc<Vec<Sibling>>,
+) -> Result<Option<Tail>, NoMemory>
+    requires some { 0 < length queue.now }
+    requires few { length (slice_index_or queue.now 0 no_ending).ordinals ≤ MOST_KEY }
+    requires order { IsSorted sibling_cmp (arc_value siblings).items }
+    requires small { All (λ (s : Sibling). IsWithin (2 * most_reached) s.added) (arc_value siblings).items }
+    requires rest { IsWithin most_reached rest }
+    ensures family { IfOk result (λ longer. IfSome longer IsFamily) }
+    ensures all { IfOk result (λ longer. family_of longer ≡ map (begun_by (slice_index_or queue.now 0 no_ending).ordinals rest) (arc_value siblings).items) }
 {
-    path.as_mut_slice().reverse();
-    path
+    let Some(first) = queue.first() else {
+        unreachable!();
+    };
+    begun_by_first(alloc, Some(&first.0.ordinals), rest, siblings)
 }

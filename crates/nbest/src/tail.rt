@@ -1,5 +1,8 @@
 ghost use Rattle.std.specs.Prelude.{◌≡◌, ◌<◌, ◌∷◌, IfSome, length};
-ghost use Rattle.nbest.specs.Tails.{ending, family, family_of};
+ghost use Rattle.nbest.specs.Tails.{IsFamily, ending, family, family_of};
+
+use crate::chain::Chain;
+use std::sync::Arc;
 
 /// The last entries of paths over a span. The order of tails is that in which a search looks at them: by the least cost
 /// of a path that ends so, then by the ordinals from the last entry on.
@@ -8,30 +11,32 @@ pub struct Tail {
     /// The least cost of a path that ends so.
     pub estimate: i64,
     /// The ordinals, from the last entry to the first.
-    pub ordinals: Vec<u32>,
+    pub ordinals: Chain,
     /// What may stand in the place of its first entry, in order.
-    pub siblings: Vec<Sibling>,
+    pub siblings: Arc<Vec<Sibling>>,
     /// From where on the siblings are behind this tail.
     pub next: usize,
+    /// What the entries after the first one cost, with the connections to them and between them but for the first.
+    pub rest: i64,
 }
 
-/// The first entry of a tail, by its ordinal, and the tail's estimate with it.
+/// The first entry of a tail, by its ordinal, and what it adds to the estimate: the least cost of a list that ends with it,
+/// and its connection to what comes after it.
 #[derive(Clone, Copy, PartialEq, Eq, PartialOrd, Ord)]
 pub struct Sibling {
-    pub estimate: i64,
+    pub added: i64,
     pub ordinal: u32,
 }
 
 /// The tail that has the next sibling in the place of its first entry.
 pub fn next_sibling(mut tail: Tail) -> Option<Tail>
-    requires some { 0 < length tail.ordinals.items }
+    requires { IsFamily tail }
     ensures family { family tail ≡ ending tail ∷ family_of result }
-    ensures some { IfSome result (λ next. 0 < length next.ordinals.items) }
+    ensures some { IfSome result (λ next. 0 < length next.ordinals) }
 {
     let sibling = *tail.siblings.as_slice().get(tail.next)?;
-    let first = tail.ordinals.len() - 1;
-    tail.ordinals[first] = sibling.ordinal;
-    tail.estimate = sibling.estimate;
+    tail.ordinals.set_first(sibling.ordinal);
+    tail.estimate = sibling.added + tail.rest;
     tail.next += 1;
     Some(tail)
 }

@@ -1,5 +1,6 @@
 -- What is written of a key's answer reads as the answer, and the answer holds.
-use Rattle.std.proofs.Common.{refl, subst, sym, ℕ, ◌<◌, ◌≤◌, inl, inr, List, [], ◌∷◌, length, arith}
+use Rattle.std.specs.List.{flat_map}
+use Rattle.std.proofs.Common.{◌≡◌, refl, subst, sym, ℕ, ◌<◌, ◌≤◌, inl, inr, List, [], ◌∷◌, length, arith, Ok}
 use Rattle.std.specs.Prelude.{ℤ, pos, negsuc, slice_index}
 use Rattle.std.proofs.lemmas.Int.{ints}
 use Rattle.mz_base.specs.Data.{DataLists, AreDataSound}
@@ -9,14 +10,19 @@ use Rattle.mz_base.specs.declared.lattice.Lattice.{Lattice}
 use Rattle.cert_text.specs.Written.{CanBeWritten, IsShort}
 use Rattle.cert_text.specs.declared.field.TheConstants.{MOST_ORDINAL}
 use Rattle.cert_text.proofs.ReadAgain.{certificate_text-read}
-use Rattle.conversion_meaning.specs.AnswerLaws.{IsAnswer}
-use Rattle.conversion_meaning.specs.Answers.{answer}
+use Rattle.cert_text.specs.Readings.{certificate_of}
+use Rattle.cert_text.specs.Texts.{certificate_text}
+use Rattle.conversion_text.specs.Texts.{conversion_text, segment_text}
+use Rattle.mz_base.specs.Lines.{lines_of}
+use Rattle.world_files.proofs.MoreLines.{certificate_text-read_on}
+use Rattle.conversion_meaning.specs.AnswerLaws.{IsFirstAnswer}
+use Rattle.conversion_meaning.specs.Answers.{answer, first_answer}
 use Rattle.conversion_meaning.specs.Bounds.{IsWithin}
 use Rattle.conversion_meaning.specs.Certificates.{claim_of}
 use Rattle.conversion_meaning.specs.Lattices.{AreBounds, IsKey, IsLatticeOf, IsWellFormed, entry, no_entry}
 use Rattle.conversion_meaning.specs.Paths.{IsPath, IsSpan, whole}
 use Rattle.conversion_meaning.specs.Potentials.{ordinals_in}
-use Rattle.conversion_meaning.proofs.AnswerLemmas.{IsAnswer-answer}
+use Rattle.conversion_meaning.proofs.AnswerLemmas.{IsFirstAnswer-first_answer}
 use Rattle.conversion_meaning.proofs.CostBounds.{IsWithin-least, IsWithin-path_cost}
 use Rattle.conversion_meaning.proofs.Counts.{entries-few}
 use Rattle.conversion_meaning.proofs.EntryLemmas.{IsWellFormed-from_entries}
@@ -40,7 +46,7 @@ inside_path es from to [] joined o among = absurd among
 inside_path es from to (first ∷ path) joined o (inl same) = subst (λ x. x < length es) same joined.0
 inside_path es from to (first ∷ path) joined o (inr among) = inside_path es (entry es first).end to path joined.2 o among
 
-module _ (set : DataLists) (l : Lattice) (sound : AreDataSound set) (of : IsLatticeOf set [] l) (c : Certificate) (is : IsAnswer set l c) where
+module _ (set : DataLists) (l : Lattice) (sound : AreDataSound set) (of : IsLatticeOf set [] l) (c : Certificate) (is : IsFirstAnswer set l c) where
   well : IsWellFormed set l
   well = IsWellFormed-from_entries set [] l sound of
 
@@ -81,13 +87,19 @@ module _ (set : DataLists) (l : Lattice) (sound : AreDataSound set) (of : IsLatt
         total = short_total;
       }
 
+-- what is written of a whole answer reads as its first answer, where that is so of the first answer alone
+whole-read : (set : DataLists) (key bounds : List ℕ) → certificate_of (length key) (lines_of (certificate_text (first_answer set [] key bounds))) ≡ Ok (first_answer set [] key bounds) → certificate_of (length key) (lines_of (conversion_text key (answer set [] [] [] key bounds))) ≡ Ok (first_answer set [] key bounds)
+unfolding answer
+whole-read set key bounds is =
+    certificate_text-read_on (first_answer set [] key bounds) (length key) (flat_map (segment_text key) (answer set [] [] [] key bounds).segments) is
+
 -- the answer of a lattice's key is written so that it reads again, and it holds
 AnswerHolds-lattice : (set : DataLists) (l : Lattice) → AreDataSound set → IsLatticeOf set [] l → AnswerHolds set l.key l.bounds
 AnswerHolds-lattice set l sound of =
-    let c = answer set [] l.key l.bounds in
-    let is : IsAnswer set l c = IsAnswer-answer set [] l sound of in
+    let c = first_answer set [] l.key l.bounds in
+    let is : IsFirstAnswer set l c = IsFirstAnswer-first_answer set [] l sound of in
     record {
-      reads = certificate_text-read (length l.key) c of.key.few (written set l sound of c is);
+      reads = whole-read set l.key l.bounds (certificate_text-read (length l.key) c of.key.few (written set l sound of c is));
       holds = record {
         lattice = l;
         of_key = of;

@@ -6,3 +6,4 @@ pub mod Served
 pub mod SetFiles
 pub mod UserThere
 pub mod AnswersHold
+pub mod MoreLines

@@ -6,8 +6,8 @@ use Rattle.mz_base.specs.declared.lattice.Certificate.{Certificate}
 use Rattle.mz_base.specs.declared.lattice.Lattice.{Lattice}
 use Rattle.mz_base.specs.declared.status.CertFault.{CertFault}
 use Rattle.cert_text.specs.Readings.{certificate_of}
-use Rattle.cert_text.specs.Texts.{certificate_text}
-use Rattle.conversion_meaning.specs.Answers.{answer}
+use Rattle.conversion_text.specs.Texts.{conversion_text}
+use Rattle.conversion_meaning.specs.Answers.{answer, first_answer}
 use Rattle.conversion_meaning.specs.Certificates.{claim_of}
 use Rattle.conversion_meaning.specs.Lattices.{IsLatticeOf}
 use Rattle.conversion_meaning.specs.Paths.{whole}
@@ -21,7 +21,7 @@ pub record IsVerdictOn (set : DataLists) (key : List ℕ) (certificate : Certifi
   pub bounds_are : lattice.bounds ≡ certificate.bounds
   pub verdict_is : IsVerdict (claim_of set lattice.entries (whole lattice 0) certificate) verdict
 
--- what is written of a key's answer reads as the answer, and the answer holds
+-- what is written of a key's answer, segments and all, reads as its first answer, and the first answer holds
 pub record AnswerHolds (set : DataLists) (key bounds : List ℕ) : Type 0 where
-  pub reads : certificate_of (length key) (lines_of (certificate_text (answer set [] key bounds))) ≡ Ok (answer set [] key bounds)
-  pub holds : IsVerdictOn set key (answer set [] key bounds) (Ok tt)
+  pub reads : certificate_of (length key) (lines_of (conversion_text key (answer set [] [] [] key bounds))) ≡ Ok (first_answer set [] key bounds)
+  pub holds : IsVerdictOn set key (first_answer set [] key bounds) (Ok tt)

@@ -2,12 +2,12 @@ use Rattle.std.proofs.Common.{refl}
 use Rattle.mz_base.specs.Classes.{class_of}
 use Rattle.mz_base.specs.Data.{connection, places, pos_of, unknown_of, word_at}
 use Rattle.conversion_meaning.specs.AllPaths.{all_paths}
-use Rattle.conversion_meaning.specs.Answers.{answer, least_costs}
+use Rattle.conversion_meaning.specs.Answers.{first_answer, least_costs}
 use Rattle.conversion_meaning.specs.Entries.{entries, entries_from, entries_in, user_entries, word_entries, char_entries, run_entries, is_run}
 use Rattle.conversion_meaning.specs.InOrder.{best_path, paths_in_order}
 use Rattle.conversion_meaning.specs.Potentials.{ordinals_in}
 use Rattle.conversion_meaning.proofs.examples.kyouha_cut_answer.Goals as goal
 
 pub returns : goal.returns
-unfolding entries entries_from entries_in user_entries word_entries char_entries run_entries is_run places word_at unknown_of pos_of class_of connection all_paths ordinals_in paths_in_order best_path least_costs answer
+unfolding entries entries_from entries_in user_entries word_entries char_entries run_entries is_run places word_at unknown_of pos_of class_of connection all_paths ordinals_in paths_in_order best_path least_costs first_answer
 returns _ = refl

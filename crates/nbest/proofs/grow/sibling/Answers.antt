@@ -6,16 +6,16 @@ use Rattle.conversion_meaning.specs.Lattices.{entry}
 use Rattle.nbest.proofs.SignedLemmas.{kept}
 use Rattle.nbest.proofs.grow.sibling.Goals as goal
 
-pub returns : goal.returns
-returns g c =
+pub returns-clause-is : goal.returns-clause-is
+returns-clause-is g c =
     let cost = slice_index_or c.args.costs.now c.args.ordinal (pos 0) in
     let above = c.requires.cost.above in
     let below = c.requires.cost.below in
     let same : to_z w64 (of_z w64 cost) ≡ cost = grind (arith, ints) in
-    let link = (g.met.D.DataSet.sound c.args.set.now).connections (entry c.args.entries.now c.args.ordinal).rid c.args.join.now.lid c.requires.rid c.requires.lid in
+    let link = (g.met.D.DataSet.sound c.args.set.now).connections (entry c.args.entries.now c.args.ordinal).rid c.args.lid c.requires.rid c.requires.lid in
     let conn_above = link.above in
     let conn_below = link.below in
-    let conn_is : c.conn-connection.result ≡ connection (g.D.DataSet.lists c.args.set.now) (entry c.args.entries.now c.args.ordinal).rid c.args.join.now.lid = c.conn-connection.ensures in
-    let linked : to_z w32 (of_z w32 c.conn-connection.result) ≡ connection (g.D.DataSet.lists c.args.set.now) (entry c.args.entries.now c.args.ordinal).rid c.args.join.now.lid = grind (arith, ints) in
-    let sum = c.estimate.ensures in
-    ap (λ z. record { estimate = z; ordinal = c.args.ordinal }) (kept c.estimate.result c.estimate.type_inv ∙ omega (arith, ints, sum, same, linked))
+    let conn_is : c.conn-connection.result ≡ connection (g.D.DataSet.lists c.args.set.now) (entry c.args.entries.now c.args.ordinal).rid c.args.lid = c.conn-connection.ensures in
+    let linked : to_z w32 (of_z w32 c.conn-connection.result) ≡ connection (g.D.DataSet.lists c.args.set.now) (entry c.args.entries.now c.args.ordinal).rid c.args.lid = grind (arith, ints) in
+    let sum = c.added.ensures in
+    ap (λ z. record { added = z; ordinal = c.args.ordinal }) (kept c.added.result c.added.type_inv ∙ omega (arith, ints, sum, same, linked))

@@ -7,7 +7,7 @@ use Rattle.nbest.proofs.join.join_of.Goals as goal
 
 pub overflow_add-result : goal.overflow_add-result
 overflow_add-result c =
-    let o = first_of c.args.tail.now.ordinals.items in
+    let o = first_of c.args.tail.now.ordinals in
     let cost = slice_index_or c.args.costs.now o (pos 0) in
     let own = (entry c.args.entries.now o).cost in
     let estimate = c.args.tail.now.estimate in
@@ -28,7 +28,7 @@ overflow_add-result c =
 
 pub returns-clause-rest : goal.returns-clause-rest
 returns-clause-rest c =
-    let o = first_of c.args.tail.now.ordinals.items in
+    let o = first_of c.args.tail.now.ordinals in
     let cost = slice_index_or c.args.costs.now o (pos 0) in
     let own = (entry c.args.entries.now o).cost in
     let estimate = c.args.tail.now.estimate in

@@ -3,6 +3,13 @@ use Rattle.std.specs.BinaryHeap.{heap_capacity, heap_items, heap_len}
 use Rattle.nbest.proofs.QueueLemmas.{IsFamily-next, IsQueue-popped, IsQueue-pushed, Popped, first_family, loses_alone, loses_first, none_family, pushed_ok}
 use Rattle.nbest.proofs.queue.pass_first.Goals as goal
 
+pub next_sibling-requires : goal.next_sibling-requires
+next_sibling-requires c =
+    let old = heap_items c.args.heap.now in
+    let rest = heap_items c.pop.new.self in
+    let popped : Popped old rest c.in-Some.field-0 = record { first = c.in-Some.ensures.top; same = c.in-Some.ensures.permutation; greatest = c.in-Some.ensures.heap_order } in
+    first_family old rest c.in-Some.field-0 popped c.requires.queue
+
 pub returns-in-Some-next_sibling-clause-queue : goal.returns-in-Some-next_sibling-clause-queue
 returns-in-Some-next_sibling-clause-queue c =
     let old = heap_items c.args.heap.now in

@@ -1,0 +1,18 @@
+use Rattle.std.proofs.Common.{refl}
+use Rattle.mz_base.specs.Classes.{class_of}
+use Rattle.mz_base.specs.Data.{connection, joins, kanji_rows, places, pos_of, unknown_of, values_of, word_at}
+use Rattle.mz_base.specs.Folds.{row_of}
+use Rattle.conversion_meaning.specs.AllPaths.{all_paths}
+use Rattle.conversion_meaning.specs.Answers.{answer, first_answer, least_costs}
+use Rattle.conversion_meaning.specs.Candidates.{first_values}
+use Rattle.conversion_meaning.specs.Entries.{entries, entries_from, entries_in, user_entries, word_entries, char_entries, run_entries, is_run}
+use Rattle.conversion_meaning.specs.Firsts.{firsts}
+use Rattle.conversion_meaning.specs.InOrder.{best_path, paths_in_order}
+use Rattle.conversion_meaning.specs.Potentials.{ordinals_in}
+use Rattle.conversion_meaning.specs.Rules.{rewritten, spelled}
+use Rattle.conversion_meaning.specs.Segments.{cut}
+use Rattle.conversion_meaning.proofs.examples.kyouha_answer.Goals as goal
+
+pub returns : goal.returns
+unfolding entries entries_from entries_in user_entries word_entries char_entries run_entries is_run places word_at unknown_of pos_of class_of connection joins kanji_rows values_of row_of all_paths ordinals_in paths_in_order best_path least_costs first_answer answer cut first_values firsts rewritten spelled
+returns _ = refl

@@ -1,0 +1,5 @@
+use Rattle.conversion_meaning.proofs.CutParts.{cut-parts_are_all}
+use Rattle.conversion_meaning.proofs.segments.cut_parts_are_all.Goals as goal
+
+pub returns : goal.returns
+returns c = λ d l path well joined. cut-parts_are_all d l well path joined

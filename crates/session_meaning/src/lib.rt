@@ -1,0 +1,21 @@
+//! What a session means: its stages, what each command comes to in each mode, what is learned, and the line of a command.
+//! specs/ has the definitions, and each function here is a law of them, which its clause states. Start at specs/Steps.antt.
+#![tactic(auto)]
+
+mod examples;
+mod history;
+mod laws;
+mod need;
+mod page;
+
+pub use examples::{
+    kyo_suggests, kyouha_converts, kyouha_is_committed, kyouha_narrows, second_is_taken,
+    third_passes,
+};
+pub use history::{MOST_PAIRS, history_limit_is};
+pub use laws::{
+    data_stay, learned_is_committed, lines_tell_the_session, quiet_commands_change_nothing,
+    results_are_last, takes_come_first,
+};
+pub use need::Need;
+pub use page::{PAGE_PLACES, page_limit_is};
