@@ -51,6 +51,16 @@ impl Composer {
         })
     }
 
+    /// A composer of the same texts with one more character, typed at the cursor. It composes nothing, so it is for a
+    /// caller that knows that fewer than [`MOST_SHOWN`] characters are shown.
+    pub fn with_typed(&self, c: char) -> Result<Composer, NoMemory>
+        ensures { IfOk result (λ typed. typed ≡ inserted self.now c) }
+    {
+        let mut typed = self.copy()?;
+        typed.run.push(c)?;
+        Ok(typed)
+    }
+
     /// Types a character at the cursor.
     pub fn insert<R: Romaji>(&mut self, table: &R, c: char) -> Result<(), InsertError>
         ensures ok { OnOk result (self.new ≡ inserted self.old c) }
