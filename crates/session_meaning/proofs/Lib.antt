@@ -1,2 +1,7 @@
+pub mod ChoiceLemmas
 pub mod DataLemmas
+pub mod FieldAnswers
+pub mod FieldSteps
+pub mod FieldTexts
+pub mod SoundLemmas
 pub mod StepLemmas

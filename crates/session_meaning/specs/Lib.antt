@@ -1,7 +1,10 @@
 pub mod Examples
+pub mod Fields
 pub mod History
 pub mod Laws
 pub mod Lines
 pub mod Outcomes
+pub mod Reached
+pub mod ReachedLaws
 pub mod Stages
 pub mod Steps

@@ -7,6 +7,7 @@ mod history;
 mod laws;
 mod need;
 mod page;
+mod reached;
 
 pub use examples::{
     kyo_suggests, kyouha_converts, kyouha_is_committed, kyouha_narrows, second_is_taken,
@@ -19,3 +20,4 @@ pub use laws::{
 };
 pub use need::Need;
 pub use page::{PAGE_PLACES, page_limit_is};
+pub use reached::{lines_are_fields, reached_sessions_are_sound, soundness_stays};
