@@ -2,5 +2,5 @@ pub mod Args
 pub mod Core
 pub mod Programs
 pub mod Reported
-pub mod Sessions
+pub mod Services
 pub mod Settles

@@ -6,17 +6,18 @@
 mod args;
 mod command;
 mod laws;
+mod numbers;
 mod outputs;
 mod program;
 mod run;
-mod session;
+mod service;
 mod statuses;
 mod verdict;
 
 pub use args::Request;
 pub use command::local;
 pub use laws::{limits_are, run_order_is_complete};
+pub use numbers::{FIRST_CLIENT, FIRST_JOB, FIRST_USER};
 pub use outputs::Output;
 pub use program::{Action, Ending, Told, action_for, ending_of, tell};
-pub use run::{FIRST_CLIENT, FIRST_USER};
-pub use session::{FIRST_JOB, Session};
+pub use service::Service;

@@ -1,60 +1,88 @@
-ghost use Rattle.std.specs.Prelude.{◌≡◌, [], ◌∷◌, ◌++◌, IfOk, OnOk, true};
-ghost use Rattle.std.specs.List.{filter_map};
+ghost use Rattle.std.specs.Prelude.{◌≡◌, IfOk, OnOk, true};
+ghost use Rattle.std.specs.Arc.{arc_value};
 ghost use Rattle.std.specs.Option.{option_copied};
-ghost use Rattle.mz_base.specs.declared.event.Event.TheVariants as event;
-ghost use Rattle.mz_base.specs.declared.event.Outcome.TheVariants as outcome;
-ghost use Rattle.mozc_cli.specs.Core.{take_for, client_events, client_lines, client_logs, commands_of, after_job, job_log, journal, own, run_logs, user_logs};
-ghost use Rattle.mozc_cli.specs.Sessions.{opening};
+ghost use Rattle.mozc_cli.specs.Core.{all_done, client_logs, job_log, run_logs, served, user_logs};
+ghost use Rattle.mozc_cli.specs.Services.{IsKept, progress_of};
 
-use crate::session::{FIRST_JOB, Session};
+use crate::numbers::{FIRST_JOB, FIRST_USER};
+use crate::service::Service;
 use keys::Command;
 use mz_base::{
-    ClientLog, Event, JobEntry, Line, Logs, NoMemory, Outcome, Own, Romaji, Seq, Text, UserEntry,
-    UserLog,
+    ClientLog, DataSet, Event, JobEntry, Line, Logs, NoMemory, NoUserWords, Own, Seq, Text,
+    UserEntry, UserLog,
 };
 use std::alloc::Global;
+use std::sync::Arc;
 use world_files::Plan;
-
-/// The number of the one client.
-pub const FIRST_CLIENT: u32 = 1;
-
-/// The number of the one user.
-pub const FIRST_USER: u32 = 1;
 
 /// Serves the client, and tells what a complete run notes: the job comes first, then the client's commands and its end,
 /// where there is a client, and the close of the log.
-pub fn serve<R: Romaji>(
+pub fn serve<D: DataSet + Drop>(
     alloc: Global,
-    table: &R,
+    set: &Arc<D>,
     user: Option<&Text>,
     client: Option<&Plan>,
 ) -> Result<Logs, NoMemory>
-    ensures { IfOk result (λ logs. logs ≡ run_logs (R.rules table.now) (option_copied user.entry) (option_copied client.entry)) }
+    ensures { IfOk result (λ logs. logs ≡ run_logs (D.lists (arc_value set.now)) (option_copied user.entry) (option_copied client.entry)) }
 {
-    let mut events = Vec::new(alloc);
-    events.push(Event::Job {
-        job: FIRST_JOB,
-        outcome: Outcome::Published,
-    })?;
-    let lines = serve_client(alloc, table, client, &mut events)?;
+    let Service {
+        lines,
+        own,
+        journal,
+        mut events,
+        ..
+    } = all_done(alloc, set, client)?;
     events.push(Event::Close)?;
     Ok(Logs {
-        clients: client_logs(alloc, client, lines, events.as_slice())?,
+        clients: client_logs(alloc, client, lines, own)?,
         jobs: job_log(alloc)?,
         closed: true,
-        users: user_logs(alloc, user, journal(alloc, client)?)?,
+        users: user_logs(alloc, user, journal)?,
         events: Seq::from_vec(events),
         certificates: None,
     })
+}
+
+/// Carries out the client's commands, where there is a client.
+fn all_done<D: DataSet + Drop>(
+    alloc: Global,
+    set: &Arc<D>,
+    client: Option<&Plan>,
+) -> Result<Service<D>, NoMemory>
+    ensures { IfOk result (λ service. progress_of service ≡ all_done (D.lists (arc_value set.now)) (option_copied client.entry)) }
+{
+    let mut service = Service::begun(alloc)?;
+    if let Some(plan) = client {
+        serve_commands(alloc, set, &mut service, plan.commands.as_slice())?;
+        service.end()?;
+    }
+    Ok(service)
+}
+
+fn serve_commands<D: DataSet + Drop>(
+    alloc: Global,
+    set: &Arc<D>,
+    service: &mut Service<D>,
+    commands: &[Command],
+) -> Result<(), NoMemory>
+    requires kept { IsKept service.old }
+    ensures done { OnOk result (progress_of service.new ≡ served (D.lists (arc_value set.now)) (progress_of service.old) commands.now) }
+    ensures kept { OnOk result (IsKept service.new) }
+{
+    let words = Arc::new(alloc, NoUserWords::new(alloc))?;
+    for command in commands {
+        service.carry_out(alloc, set, &words, command)?;
+    }
+    Ok(())
 }
 
 fn client_logs(
     alloc: Global,
     client: Option<&Plan>,
     lines: Vec<Line>,
-    events: &[Event],
+    own: Vec<Own>,
 ) -> Result<Seq<ClientLog>, NoMemory>
-    ensures { IfOk result (λ logs. logs ≡ client_logs (option_copied client.entry) lines.items events.now) }
+    ensures { IfOk result (λ logs. logs ≡ client_logs (option_copied client.entry) lines.items own.items) }
 {
     let mut logs = Vec::new(alloc);
     if let Some(plan) = client {
@@ -62,30 +90,10 @@ fn client_logs(
             name: plan.name.copy(alloc)?,
             user: FIRST_USER,
             lines: Seq::from_vec(lines),
-            own: Seq::from_vec(own_events(alloc, events)?),
+            own: Seq::from_vec(own),
         })?;
     }
     Ok(Seq::from_vec(logs))
-}
-
-fn own_events(alloc: Global, events: &[Event]) -> Result<Vec<Own>, NoMemory>
-    ensures { IfOk result (λ found. found.items ≡ filter_map own events.now) }
-{
-    Ok(
-        events
-            .iter()
-            .filter_map(|event| own(*event))
-            .collect(alloc)?,
-    )
-}
-
-fn own(event: Event) -> Option<Own>
-    ensures { result ≡ own event }
-{
-    match event {
-        Event::Job { .. } | Event::Dict { .. } | Event::Close => None,
-        _ => Some(Own { event, prefix: 0 }),
-    }
 }
 
 fn job_log(alloc: Global) -> Result<Seq<JobEntry>, NoMemory>
@@ -96,101 +104,20 @@ fn job_log(alloc: Global) -> Result<Seq<JobEntry>, NoMemory>
     Ok(Seq::from_vec(log))
 }
 
-fn journal(alloc: Global, client: Option<&Plan>) -> Result<Seq<UserEntry>, NoMemory>
-    ensures { IfOk result (λ entries. entries ≡ journal (option_copied client.entry) true) }
-{
-    let mut entries = Vec::new(alloc);
-    if client.is_some() {
-        entries.push(UserEntry::End {
-            client: FIRST_CLIENT,
-            count: 0,
-        })?;
-    }
-    Ok(Seq::from_vec(entries))
-}
-
 fn user_logs(
     alloc: Global,
     user: Option<&Text>,
-    entries: Seq<UserEntry>,
+    journal: Vec<UserEntry>,
 ) -> Result<Seq<UserLog>, NoMemory>
-    ensures { IfOk result (λ logs. logs ≡ user_logs (option_copied user.entry) entries) }
+    ensures { IfOk result (λ logs. logs ≡ user_logs (option_copied user.entry) journal.items) }
 {
     let mut logs = Vec::new(alloc);
     if let Some(name) = user {
         logs.push(UserLog {
             name: name.copy(alloc)?,
             dicts: Seq::from_vec(Vec::new(alloc)),
-            entries,
+            entries: Seq::from_vec(journal),
         })?;
     }
     Ok(Seq::from_vec(logs))
-}
-
-fn serve_client<R: Romaji>(
-    alloc: Global,
-    table: &R,
-    client: Option<&Plan>,
-    events: &mut Vec<Event>,
-) -> Result<Vec<Line>, NoMemory>
-    ensures lines { IfOk result (λ lines. lines.items ≡ client_lines (R.rules table.now) opening (commands_of (option_copied client.entry))) }
-    ensures events { OnOk result (events.new.items ++ event.Close ∷ [] ≡ events.old.items ++ after_job (R.rules table.now) (option_copied client.entry)) }
-{
-    match client {
-        Some(plan) => serve_plan(alloc, table, plan, events),
-        None => Ok(Vec::new(alloc)),
-    }
-}
-
-fn serve_plan<R: Romaji>(
-    alloc: Global,
-    table: &R,
-    plan: &Plan,
-    events: &mut Vec<Event>,
-) -> Result<Vec<Line>, NoMemory>
-    ensures lines { IfOk result (λ lines. lines.items ≡ client_lines (R.rules table.now) opening plan.now.commands) }
-    ensures events { OnOk result (events.new.items ≡ events.old.items ++ (client_events (R.rules table.now) opening plan.now.commands ++ event.End FIRST_CLIENT ∷ [])) }
-{
-    let lines = serve_commands(alloc, table, plan.commands.as_slice(), events)?;
-    events.push(Event::End {
-        client: FIRST_CLIENT,
-    })?;
-    Ok(lines)
-}
-
-fn serve_commands<R: Romaji>(
-    alloc: Global,
-    table: &R,
-    commands: &[Command],
-    events: &mut Vec<Event>,
-) -> Result<Vec<Line>, NoMemory>
-    ensures lines { IfOk result (λ lines. lines.items ≡ client_lines (R.rules table.now) opening commands.now) }
-    ensures events { OnOk result (events.new.items ≡ events.old.items ++ client_events (R.rules table.now) opening commands.now) }
-{
-    let mut session = Session::new(alloc);
-    let mut lines = Vec::new(alloc);
-    for command in commands {
-        note_events(&session, command, events)?;
-        lines.push(session.step(alloc, table, command)?)?;
-    }
-    Ok(lines)
-}
-
-fn note_events(
-    session: &Session,
-    command: &Command,
-    events: &mut Vec<Event>,
-) -> Result<(), NoMemory>
-    ensures { OnOk result (events.new.items ≡ events.old.items ++ (take_for session.now command.now ++ event.Step FIRST_CLIENT ∷ [])) }
-{
-    if session.needs_take(command) {
-        events.push(Event::Take {
-            client: FIRST_CLIENT,
-            job: FIRST_JOB,
-        })?;
-    }
-    events.push(Event::Step {
-        client: FIRST_CLIENT,
-    })?;
-    Ok(())
 }

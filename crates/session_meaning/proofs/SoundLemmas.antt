@@ -31,23 +31,23 @@ use Rattle.session_meaning.proofs.ChoiceLemmas.{AreBounds-resized, HaveValues, I
 -- ---- A conversion within bounds
 
 module _ (c : Composition) (sound : IsPinnedSound c.pinned) (key : IsKey (reading c)) (bounds : List ℕ) (are : AreBounds (reading c) bounds) where
-  conversion-some : 0 < length (conversion_of c bounds).segments
+  pub conversion-some : 0 < length (conversion_of c bounds).segments
   conversion-some =
       segments-some c.pinned.lists c.pinned.rows (reading c) bounds sound.lists key are c.pinned.history session_rules
 
-  conversion-valued : HaveValues (conversion_of c bounds).segments
+  pub conversion-valued : HaveValues (conversion_of c bounds).segments
   conversion-valued =
       segments-have_values c.pinned.lists c.pinned.rows c.pinned.history session_rules (reading c) bounds sound.lists key are
 
-  conversion-touches : AreTouching 0 (length (reading c)) (map part_of (conversion_of c bounds).segments)
+  pub conversion-touches : AreTouching 0 (length (reading c)) (map part_of (conversion_of c bounds).segments)
   conversion-touches =
       segments-touch c.pinned.lists c.pinned.rows (reading c) bounds sound.lists key are c.pinned.history session_rules
 
-  conversion-keeps : length bounds ≤ length (conversion_of c bounds).segments
+  pub conversion-keeps : length bounds ≤ length (conversion_of c bounds).segments
   conversion-keeps =
       few-bounds (conversion_of c bounds).segments bounds (segments-keep_bounds c.pinned.lists c.pinned.rows c.pinned.history session_rules (reading c) bounds)
 
-  IsConverted-within : IsConverted c (conversion_of c bounds)
+  pub IsConverted-within : IsConverted c (conversion_of c bounds)
   IsConverted-within = record { key = key; within = (bounds, are, refl) }
 
 -- ---- Of each outcome
@@ -114,7 +114,7 @@ IsKey-can_convert c is =
     le-from : (n : ℕ) → nat_le n MOST_KEY ≡ true → n ≤ MOST_KEY
     le-from n is = grind (arith, nat_tests)
 
-AreBounds-none : (key : List ℕ) → AreBounds key []
+pub AreBounds-none : (key : List ℕ) → AreBounds key []
 AreBounds-none key =
     record { rising = λ k inside. absurd (omega (arith, inside)); inside = λ k d inside. absurd (omega (arith, inside)) }
 
@@ -135,7 +135,7 @@ abbrev new_ends : Choice → ℤ → List ℕ
 new_ends v by =
     map (λ (part : ℕ × ℕ). part.1) (take v.focus (parts_of v)) ++ unsigned_abs (wider_end (parts_of v) v.focus by) ∷ []
 
-ends-past_focus : (parts : List (ℕ × ℕ)) (focus end : ℕ) → focus < length parts → length (map (λ (part : ℕ × ℕ). part.1) (take focus parts) ++ end ∷ []) ≡ focus + 1
+pub ends-past_focus : (parts : List (ℕ × ℕ)) (focus end : ℕ) → focus < length parts → length (map (λ (part : ℕ × ℕ). part.1) (take focus parts) ++ end ∷ []) ≡ focus + 1
 ends-past_focus parts focus end inside =
     let joined = length-append (map (λ (part : ℕ × ℕ). part.1) (take focus parts)) (end ∷ []) in
     let mapped = length-map (take focus parts) (λ (part : ℕ × ℕ). part.1) in

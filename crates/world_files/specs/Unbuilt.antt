@@ -1,5 +1,5 @@
 -- The first line of a manifest that is not built yet: docs/FORMATS.md, "What is not built yet".
-use Rattle.std.specs.Prelude.{◌≡◌, ℕ, ◌+◌, ◌≤◌, ◌&&◌, ◌||◌, Bool, true, false, not, List, [], ◌∷◌, ◌++◌, All, length, option_to_list, Option, Some, None, Result, Ok, Err, if◌then◌else◌, codes, bytes_eq, nat_lt}
+use Rattle.std.specs.Prelude.{◌≡◌, ℕ, ◌+◌, ◌≤◌, ◌&&◌, ◌||◌, Bool, true, false, List, [], ◌∷◌, ◌++◌, All, length, option_to_list, Option, Some, None, Result, Ok, Err, if◌then◌else◌, codes, bytes_eq, nat_lt}
 use Rattle.std.specs.List.{list_any}
 use Rattle.std.specs.Str.{is_utf8}
 use Rattle.mz_base.specs.Lines.{lines_of, fields_of}
@@ -45,15 +45,10 @@ abbrev pub is_certificates : List (List ℕ) → Bool
 is_certificates [] = false
 is_certificates (word ∷ fields) = bytes_eq word (codes "CERTIFICATES")
 
--- a file of another role than romaji
-abbrev pub is_other_file : List (List ℕ) → Bool
-is_other_file (word ∷ set ∷ role ∷ fields) = bytes_eq word (codes "FILE") && not (bytes_eq role (codes "romaji"))
-is_other_file _ = false
-
 -- the first of these is not built for any command, and the others are not built for a run
 abbrev pub is_unbuilt : Bool → List Single → List (List ℕ) → Bool
 is_unbuilt in_run seen fields =
-    is_dictionary fields || (in_run && (is_certificates fields || (is_other_file fields || is_second seen (single_in fields))))
+    is_dictionary fields || (in_run && (is_certificates fields || is_second seen (single_in fields)))
 
 -- the fields of a line that is text; a line that is none has no fields
 abbrev pub text_fields : List ℕ → List (List ℕ)

@@ -3,8 +3,6 @@ use Rattle.std.specs.Prelude.{ℕ, ◌+◌, Bool, true, false, not, List, [], �
 use Rattle.std.specs.List.{list_any}
 use Rattle.keys.specs.declared.command.Command.{Command}
 use Rattle.keys.specs.declared.command.Command.TheVariants as command
-use Rattle.keys.specs.declared.key.Key.{Key}
-use Rattle.keys.specs.declared.key.Key.TheVariants as key
 use Rattle.mz_base.specs.Lines.{lines_of}
 use Rattle.mz_base.specs.declared.status.Refusal.{Refusal}
 use Rattle.mz_base.specs.declared.status.Refusal.TheVariants as refusal
@@ -12,20 +10,10 @@ use Rattle.scenario.specs.Scripts.{commands_of, script_of}
 use Rattle.scenario.specs.declared.script.ScriptError.{ScriptError}
 use Rattle.scenario.specs.declared.script.ScriptError.TheVariants as error
 
--- a key that a client obeys
-abbrev pub obeys_key : Key → Bool
-obeys_key (key.Char c) = true
-obeys_key key.Enter = true
-obeys_key key.Escape = true
-obeys_key key.Backspace = true
-obeys_key _ = false
-
--- a command that a client obeys
+-- a command that a client obeys: all but a wait
 abbrev pub obeys : Command → Bool
-obeys (command.Key k) = obeys_key k
-obeys (command.ExpectPreedit text) = true
-obeys (command.ExpectResult text) = true
-obeys _ = false
+obeys (command.Await number) = false
+obeys _ = true
 
 -- some command of a line is none that a client obeys; a bad line has no commands
 abbrev pub is_unbuilt_line : Option (List Command) → Bool

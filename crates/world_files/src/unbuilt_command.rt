@@ -4,10 +4,10 @@ ghost use Rattle.mz_base.specs.Lines.{lines_of, pointed};
 ghost use Rattle.scenario.specs.ScriptAnswers.{GivesScript};
 ghost use Rattle.scenario.specs.Scripts.{commands_of, script_of};
 ghost use Rattle.world_files.specs.Reading.{IsRefusal, Tells, UnlessFree};
-ghost use Rattle.world_files.specs.UnbuiltCommands.{comes_first, is_unbuilt_line, obeys, obeys_key, or_unbuilt_command, script_obeyed, script_refusal, unbuilt_command_after};
+ghost use Rattle.world_files.specs.UnbuiltCommands.{comes_first, is_unbuilt_line, obeys, or_unbuilt_command, script_obeyed, script_refusal, unbuilt_command_after};
 
 use crate::unbuilt::unbuilt_at;
-use keys::{Command, Key};
+use keys::Command;
 use mz_base::{NoMemory, Refusal, Seq, Text, cut_lines};
 use scenario::{ScriptError, add_commands, read_script};
 use std::alloc::Global;
@@ -121,18 +121,5 @@ fn any_unbuilt(commands: &[Command]) -> bool
 fn obeys(command: &Command) -> bool
     ensures { result ≡ obeys command.now }
 {
-    match command {
-        Command::Key(key) => obeys_key(*key),
-        Command::ExpectPreedit(_) | Command::ExpectResult(_) => true,
-        Command::Select(_) | Command::Reset | Command::Await(_) => false,
-    }
-}
-
-fn obeys_key(key: Key) -> bool
-    ensures { result ≡ obeys_key key }
-{
-    matches!(
-        key,
-        Key::Char(_) | Key::Enter | Key::Escape | Key::Backspace
-    )
+    !matches!(command, Command::Await(_))
 }

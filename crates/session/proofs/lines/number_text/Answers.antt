@@ -3,7 +3,7 @@ use Rattle.std.specs.Fmt.{decimal}
 use Rattle.std.specs.Str.{chars}
 use Rattle.std.proofs.lemmas.Fmt.{IsAscii-decimal}
 use Rattle.std.proofs.lemmas.Str.{chars-IsAscii}
-use Rattle.mozc_cli.proofs.session.number_text.Goals as goal
+use Rattle.session.proofs.lines.number_text.Goals as goal
 
 -- digits are the characters that they spell
 chars-decimal : (n : ℕ) → n < 2 ^ 64 → chars (decimal n) ≡ decimal n

@@ -1,0 +1,88 @@
+-- Of a composition that is converted: the first choice, and the choice in a conversion within other bounds.
+use Rattle.std.proofs.Common.{◌≡◌, refl, sym, subst, ap, ◌∙◌, ℕ, ◌+◌, ◌<◌, Bool, true, false, List, [], ◌∷◌, ◌++◌, map, take, Option, Some, None, if◌then◌else◌, length, arith}
+use Rattle.std.specs.Prelude.{ℤ, unsigned_abs}
+use Rattle.std.proofs.lemmas.List.{length-map}
+use Rattle.mz_base.specs.Data.{DataLists}
+use Rattle.mz_base.specs.declared.conversion.Conversion.{Conversion}
+use Rattle.mz_base.specs.declared.conversion.Segment.{Segment}
+use Rattle.mz_base.specs.declared.user.UserRow.{UserRow}
+use Rattle.conversion_meaning.specs.Answers.{answer}
+use Rattle.conversion_meaning.specs.Lattices.{AreBounds, IsKey}
+use Rattle.conversion_meaning.specs.SegmentLaws.{AreTouching, part_of}
+use Rattle.conversion_meaning.specs.Segments.{can_widen, resized, wider_end}
+use Rattle.session_meaning.specs.Outcomes.{conversion_of, first_choice, kept_places, parts_of, rechosen, values_before}
+use Rattle.session_meaning.specs.Reached.{IsPinnedSound}
+use Rattle.session_meaning.specs.Stages.{Choice, Composition, reading}
+use Rattle.session_meaning.proofs.ChoiceLemmas.{AreBounds-resized, IsChosen-first, IsChosen-rechosen}
+use Rattle.session_meaning.proofs.SoundLemmas.{AreBounds-none, IsConverted-within, conversion-keeps, conversion-some, conversion-touches, conversion-valued, ends-past_focus}
+use Rattle.session.specs.Kept.{IsKept}
+
+-- a conversion by these data, as no rule sees the history
+pub conversion-is : (lists : DataLists) (rows : List UserRow) (c : Composition) (key bounds : List ℕ) → lists ≡ c.pinned.lists → rows ≡ c.pinned.rows → key ≡ reading c → answer lists rows [] [] key bounds ≡ conversion_of c bounds
+unfolding answer
+conversion-is lists rows c key bounds same same_rows same_key =
+    ap (λ d. answer d rows [] [] key bounds) same ∙ ap (λ us. answer c.pinned.lists us [] [] key bounds) same_rows ∙ ap (λ k. answer c.pinned.lists c.pinned.rows [] [] k bounds) same_key
+
+-- the first choice
+first-kept : (c : Composition) (key : List ℕ) → IsPinnedSound c.pinned → key ≡ reading c → IsKey key → IsKept c key (first_choice (conversion_of c []))
+first-kept c key sound same is =
+    let there : IsKey (reading c) = subst IsKey same is in
+    let none = AreBounds-none (reading c) in
+    record {
+      sound = sound;
+      key_is = same;
+      converted = IsConverted-within c sound there [] none;
+      chosen = IsChosen-first (conversion_of c []) (conversion-some c sound there [] none) (conversion-valued c sound there [] none);
+    }
+
+pub IsKept-first : (c : Composition) (key : List ℕ) (conversion : Conversion) (chosen : List ℕ) → IsPinnedSound c.pinned → key ≡ reading c → IsKey key → conversion ≡ conversion_of c [] → chosen ≡ map (λ (segment : Segment). 0) conversion.segments → IsKept c key (record { conversion = conversion; focus = 0; chosen = chosen })
+IsKept-first c key conversion chosen sound same is made firsts =
+    let kept = first-kept c key sound same is in
+    let all : first_choice (conversion_of c []) ≡ record { conversion = conversion; focus = 0; chosen = chosen } = ap first_choice (sym made) ∙ ap (λ places. record { conversion = conversion; focus = 0; chosen = places }) (sym firsts) in
+    subst (IsKept c key) all kept
+
+-- the same focus in a conversion within bounds that go up to it
+within-kept : (c : Composition) (key : List ℕ) (v : Choice) (bounds : List ℕ) → IsKept c key v → AreBounds (reading c) bounds → v.focus < length bounds → IsKept c key (rechosen v (conversion_of c bounds))
+within-kept c key v bounds is are few =
+    let there = is.converted.key in
+    let keeps = conversion-keeps c is.sound there bounds are in
+    record {
+      sound = is.sound;
+      key_is = is.key_is;
+      converted = IsConverted-within c is.sound there bounds are;
+      chosen = IsChosen-rechosen v (conversion_of c bounds) (omega (arith, few, keeps)) (conversion-valued c is.sound there bounds are);
+    }
+
+pub IsKept-within : (c : Composition) (key : List ℕ) (v : Choice) (bounds : List ℕ) (conversion : Conversion) (chosen : List ℕ) → IsKept c key v → AreBounds (reading c) bounds → v.focus < length bounds → conversion ≡ conversion_of c bounds → chosen ≡ kept_places conversion.segments (values_before v) → IsKept c key (record { conversion = conversion; focus = v.focus; chosen = chosen })
+IsKept-within c key v bounds conversion chosen is are few made kept_are =
+    let kept = within-kept c key v bounds is are few in
+    let all : rechosen v (conversion_of c bounds) ≡ record { conversion = conversion; focus = v.focus; chosen = chosen } = ap (rechosen v) (sym made) ∙ ap (λ places. record { conversion = conversion; focus = v.focus; chosen = places }) (sym kept_are) in
+    subst (IsKept c key) all kept
+
+module _ (c : Composition) (key : List ℕ) (v : Choice) (is : IsKept c key v) (by : ℤ) where
+  ends : List ℕ
+  ends = map (λ (part : ℕ × ℕ). part.1) (take v.focus (parts_of v)) ++ unsigned_abs (wider_end (parts_of v) v.focus by) ∷ []
+
+  inside : v.focus < length (parts_of v)
+  inside =
+      let focus = is.chosen.focus in
+      let mapped = length-map v.conversion.segments part_of in
+      omega (arith, focus, mapped)
+
+  touching : AreTouching 0 (length (reading c)) (parts_of v)
+  touching =
+      let r = is.converted.within in
+      subst (λ (conversion : Conversion). AreTouching 0 (length (reading c)) (map part_of conversion.segments)) (sym r.2) (conversion-touches c is.sound is.converted.key r.0 r.1)
+
+  -- the bounds of a resize are bounds, and go up to the focus
+  pub resized-bounds : (bounds : List ℕ) → resized (parts_of v) v.focus by (length (reading c)) ≡ Some bounds → AreBounds (reading c) bounds × (v.focus < length bounds)
+  unfolding resized ends
+  resized-bounds bounds made = by_test (can_widen (parts_of v) v.focus by (length (reading c))) refl made
+    where
+      by_test : (b : Bool) → can_widen (parts_of v) v.focus by (length (reading c)) ≡ b → (if b then Some ends else None) ≡ Some bounds → AreBounds (reading c) bounds × (v.focus < length bounds)
+      by_test false can none = absurd (let no : None ≡ Some bounds = none in cc)
+      by_test true can some =
+          let same : ends ≡ bounds = cc in
+          let are = AreBounds-resized (reading c) (parts_of v) v.focus by touching inside can in
+          let long = ends-past_focus (parts_of v) v.focus (unsigned_abs (wider_end (parts_of v) v.focus by)) inside in
+          (subst (AreBounds (reading c)) same are, subst (λ xs. v.focus < length xs) same (omega (arith, long)))
