@@ -1,7 +1,7 @@
 -- What a heap of tails says of the endings in it.
-use Rattle.std.proofs.Common.{◌≡◌, refl, sym, ap, ◌∙◌, subst, ℕ, zero, suc, ◌+◌, ◌-◌, ◌<◌, ◌≤◌, Bool, true, false, ltb, inl, inr, List, [], ◌∷◌, ◌++◌, flat_map, Option, Some, None, Result, Ok, Err, length, get_or, set, take, drop, arith, append-nil, append_assoc}
+use Rattle.std.proofs.Common.{◌≡◌, refl, sym, ap, ◌∙◌, subst, ℕ, zero, suc, ◌+◌, ◌-◌, ◌<◌, ◌≤◌, Bool, true, false, ltb, inl, inr, List, [], ◌∷◌, ◌++◌, flat_map, Option, Some, None, length, get_or, set, take, drop, arith, append-nil, append_assoc}
 use Rattle.std.specs.Borrow.{Bor}
-use Rattle.std.specs.Prelude.{◌≢◌, ◌*◌, IfSome, MatchOption, IsOk, OnOk}
+use Rattle.std.specs.Prelude.{◌≢◌, ◌*◌, IfSome, MatchOption}
 use Rattle.std.specs.BinaryHeap.{IsHeap, IsUpperBound, KeepsHeap}
 use Rattle.std.specs.List.{All, HoldsAt, swap}
 use Rattle.std.specs.List.Sorted.{IsPermutation}

@@ -6,7 +6,6 @@ use Rattle.mz_base.specs.declared.lattice.Entry.{Entry}
 use Rattle.conversion_meaning.specs.Potentials.{AreLeastCosts, ordinals_in}
 use Rattle.conversion_meaning.proofs.BestLemmas.{AreForward-from_well}
 use Rattle.conversion_meaning.proofs.InOrderLemmas.{IsBest-is_first}
-use Rattle.viterbi.specs.declared.table.Reached.{Reached}
 use Rattle.viterbi.specs.Table.{IsReached, IsTrail, reached}
 use Rattle.viterbi.proofs.SolvedLemmas.{IfSome-last, AreLeastCosts-table, IsBest-reached, total_is, IsWithin-total, IsCertificate-reached}
 use Rattle.viterbi.proofs.solver.solve.Goals as goal

@@ -1,6 +1,4 @@
-use Rattle.std.proofs.Common.{sym, subst, List, length, arith, pos}
-use Rattle.mz_base.specs.declared.lattice.Entry.{Entry}
-use Rattle.conversion_meaning.proofs.BestLemmas.{AreForward-from_well}
+use Rattle.std.proofs.Common.{sym, subst, List, arith, pos}
 use Rattle.viterbi.specs.declared.arrivals.Arrival.{Arrival}
 use Rattle.viterbi.specs.declared.table.Target.{Target}
 use Rattle.viterbi.specs.Arrivals.{AreArrivals, AreSound, IsReachedBy}
