@@ -2,7 +2,9 @@ pub mod EndCounts
 pub mod EndOrder
 pub mod EntrySteps
 pub mod GroupLemmas
+pub mod HalvingLemmas
 pub mod HitLemmas
 pub mod MadeLemmas
 pub mod PlaceLemmas
 pub mod PlacedLemmas
+pub mod UserLemmas

@@ -1,5 +1,6 @@
-ghost use Rattle.std.specs.Prelude.{◌≤◌, length};
-ghost use Rattle.conversion_meaning.specs.Lattices.{EndBefore, IsByEnd, IsCursor};
+ghost use Rattle.std.specs.Prelude.{◌≡◌, ◌≤◌, AllPairs, length};
+ghost use Rattle.conversion_meaning.specs.Lattices.{AreInOrder, EndBefore, IsByEnd, IsCursor, entry};
+ghost use Rattle.lattice.specs.Begins.{IsBegin};
 
 use mz_base::Entry;
 
@@ -17,4 +18,29 @@ pub fn first_from(entries: &[Entry], by_end: &[u32], cursor: usize, position: u1
         }
     }
     by_end.len()
+}
+
+/// The same place, found by halving: for who asks for one position.
+pub fn first_at(entries: &[Entry], by_end: &[u32], position: u16) -> usize
+    requires { IsByEnd entries.now by_end.now }
+    ensures { IsCursor entries.now by_end.now position result }
+{
+    by_end.partition_point(|ordinal| end_of(entries, *ordinal) < position)
+}
+
+fn end_of(entries: &[Entry], ordinal: u32) -> u16
+    ensures { result ≡ (entry entries.now ordinal).end }
+{
+    match entries.get(ordinal as usize) {
+        Some(entry) => entry.end,
+        None => 0,
+    }
+}
+
+/// The first ordinal whose entry does not begin before the position, found by halving.
+pub fn first_beginning_at(entries: &[Entry], position: u16) -> usize
+    requires { AllPairs AreInOrder entries.now }
+    ensures { IsBegin entries.now position result }
+{
+    entries.partition_point(|entry| entry.begin < position)
 }

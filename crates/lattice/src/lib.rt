@@ -11,7 +11,7 @@ mod sources;
 mod spans;
 mod value;
 
-pub use cursor::first_from;
+pub use cursor::{first_at, first_beginning_at, first_from};
 pub use made::build;
 pub use spans::whole;
 pub use value::value_of;

@@ -1,5 +1,6 @@
-ghost use Rattle.std.specs.Prelude.{◌≡◌, ◌<◌, ◌≤◌, ◌++◌, length, OnOk, option_to_list, map, All};
+ghost use Rattle.std.specs.Prelude.{◌≡◌, ◌<◌, ◌≤◌, ◌++◌, length, nat_lt, OnOk, option_to_list, map, All};
 ghost use Rattle.mz_base.specs.Data.{is_text};
+ghost use Rattle.mz_base.specs.Users.{longest_reading};
 ghost use Rattle.conversion_meaning.specs.Entries.{char_entries, entry_of, node, run_entries, suppressed, user_entries, user_entry, word_entries, word_entry};
 ghost use Rattle.lattice.specs.Runs.{may_begin_run};
 
@@ -23,10 +24,20 @@ pub(crate) fn push_users<D: DataSet, U: UserWords>(
     requires inside { end ≤ length key.now }
     ensures { OnOk result (out.new.items ≡ out.old.items ++ user_entries (D.lists set.now) (U.rows user.now) key.now begin end) }
 {
+    if is_longer(user, end - begin) {
+        return Ok(());
+    }
     for place in user.rows_of(&key[usize::from(begin)..usize::from(end)]) {
         push_some(out, user_entry(set, user, *place, begin, end))?;
     }
     Ok(())
+}
+
+/// Whether a part of so many characters is longer than each reading of the user's. The dictionary is not asked for it.
+fn is_longer<U: UserWords>(user: &U, characters: u16) -> bool
+    ensures { result ≡ nat_lt (longest_reading (U.rows user.now)) characters }
+{
+    user.longest_reading() < usize::from(characters)
 }
 
 fn user_entry<D: DataSet, U: UserWords>(

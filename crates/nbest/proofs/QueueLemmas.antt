@@ -1,8 +1,8 @@
 -- What a heap of tails says of the endings in it.
-use Rattle.std.proofs.Common.{◌≡◌, refl, sym, ap, ◌∙◌, subst, ℕ, zero, suc, ◌+◌, ◌-◌, ◌<◌, ◌≤◌, Bool, true, false, ltb, inl, inr, List, [], ◌∷◌, ◌++◌, flat_map, Option, Some, None, Result, Ok, Err, length, get_or, set, take, drop, arith, append-nil, append_assoc}
+use Rattle.std.proofs.Common.{◌≡◌, refl, sym, ap, ◌∙◌, subst, ℕ, zero, suc, ◌+◌, ◌-◌, ◌<◌, ◌≤◌, Bool, true, false, ltb, inl, inr, List, [], ◌∷◌, ◌++◌, flat_map, Option, Some, None, length, get_or, set, take, drop, arith, append-nil, append_assoc}
 use Rattle.std.specs.Borrow.{Bor}
-use Rattle.std.specs.Prelude.{◌≢◌, ◌*◌, IfSome, MatchOption, IsOk, OnOk}
-use Rattle.std.specs.BinaryHeap.{IsHeap, IsUpperBound, KeepsHeap, PopsGreatest}
+use Rattle.std.specs.Prelude.{◌≢◌, ◌*◌, IfSome, MatchOption}
+use Rattle.std.specs.BinaryHeap.{IsHeap, IsUpperBound, KeepsHeap}
 use Rattle.std.specs.List.{All, HoldsAt, swap}
 use Rattle.std.specs.List.Sorted.{IsPermutation}
 use Rattle.std.specs.Ordering.{is_lt}
@@ -124,43 +124,52 @@ IfSome-peeked xs (Some x) item is greatest queue =
 
 -- ---- The first tail leaves, and its next sibling comes
 
--- a heap loses its first tail
-pub record Popped (old rest : List (Reverse Tail)) (x : Reverse Tail) : Type 0 where
+-- the first tail of a heap is held apart from the rest
+pub record IsHeld (old rest : List (Reverse Tail)) (x : Reverse Tail) : Type 0 where
   pub first : x ≡ get_or old 0 x
   pub same : IsPermutation old (x ∷ rest)
-  pub greatest : PopsGreatest compared old x rest
 
-module _ (old rest : List (Reverse Tail)) (x : Reverse Tail) (popped : Popped old rest x) (queue : IsQueue old) where
-  families_popped : IsPermutation (families old) (family x.0 ++ families rest)
-  families_popped =
-      IsPermutation-flat_map (λ (t : Reverse Tail). family t.0) old (x ∷ rest) popped.same
+module _ (old rest : List (Reverse Tail)) (x : Reverse Tail) (held : IsHeld old rest x) (queue : IsQueue old) where
+  families_held : IsPermutation (families old) (family x.0 ++ families rest)
+  families_held =
+      IsPermutation-flat_map (λ (t : Reverse Tail). family t.0) old (x ∷ rest) held.same
 
   some_old : 0 < length old
-  some_old =
-      let n = length_permutation old (x ∷ rest) popped.same in omega (arith, n)
+  some_old = let n = length_permutation old (x ∷ rest) held.same in omega (arith, n)
 
   leads : get_or (families old) 0 no_ending ≡ ending x.0
-  leads = first_of_families x old some_old popped.first
+  leads = first_of_families x old some_old held.first
 
   are : All (λ (t : Reverse Tail). IsFamily t.0) (x ∷ rest)
   are =
-      All-permutation (λ (t : Reverse Tail). IsFamily t.0) old (x ∷ rest) popped.same queue.families
+      All-permutation (λ (t : Reverse Tail). IsFamily t.0) old (x ∷ rest) held.same queue.families
 
   pub first_family : IsFamily x.0
   first_family = are 0 x (omega arith)
 
-  pub IsQueue-popped : IsQueue rest
-  IsQueue-popped =
-      record { heap = (popped.greatest queue.heap).0; families = λ k d inside. are (suc k) d (omega (arith, inside)) }
+  -- the rest is left
+  pub IsQueue-left : (new : List (Reverse Tail)) → IsPermutation rest new → IsHeap compared new → IsQueue new
+  IsQueue-left new left heap =
+      record { heap = heap; families = All-permutation (λ (t : Reverse Tail). IsFamily t.0) rest new left (λ k d inside. are (suc k) d (omega (arith, inside))) }
 
-  pub loses_alone : family x.0 ≡ ending x.0 ∷ [] → LosesFirst (families old) (families rest)
-  loses_alone alone =
-      subst (λ e. IsPermutation (families old) (e ∷ families rest)) (sym leads) (subst (λ es. IsPermutation (families old) (es ++ families rest)) alone families_popped)
+  -- or another tail takes its place
+  pub IsQueue-replaced : (new : List (Reverse Tail)) (y : Reverse Tail) → IsFamily y.0 → IsPermutation (y ∷ rest) new → IsHeap compared new → IsQueue new
+  IsQueue-replaced new y is placed heap =
+      record { heap = heap; families = All-permutation (λ (t : Reverse Tail). IsFamily t.0) (y ∷ rest) new placed all }
+    where
+      all : All (λ (t : Reverse Tail). IsFamily t.0) (y ∷ rest)
+      all zero d inside = is
+      all (suc k) d inside = are (suc k) d (omega (arith, inside))
+
+  pub loses_alone : (new : List (Reverse Tail)) → IsPermutation rest new → family x.0 ≡ ending x.0 ∷ [] → LosesFirst (families old) (families new)
+  loses_alone new left alone =
+      let parts : IsPermutation (families rest) (families new) = IsPermutation-flat_map (λ (t : Reverse Tail). family t.0) rest new left in
+      subst (λ e. IsPermutation (families old) (e ∷ families new)) (sym leads) (IsPermutation-trans _ _ _ (subst (λ es. IsPermutation (families old) (es ++ families rest)) alone families_held) (IsPermutation-cons (ending x.0) _ _ parts))
 
   pub loses_first : (next : Tail) (new : List (Reverse Tail)) (y : Reverse Tail) → y.0 ≡ next → family x.0 ≡ ending x.0 ∷ family next → IsPermutation (y ∷ rest) new → LosesFirst (families old) (families new)
   loses_first next new y is splits pushed =
       let parts : IsPermutation (family next ++ families rest) (families new) = subst (λ t. IsPermutation (family t ++ families rest) (families new)) is (IsPermutation-flat_map (λ (t : Reverse Tail). family t.0) (y ∷ rest) new pushed) in
-      subst (λ e. IsPermutation (families old) (e ∷ families new)) (sym leads) (IsPermutation-trans _ _ _ (subst (λ es. IsPermutation (families old) (es ++ families rest)) splits families_popped) (IsPermutation-cons (ending x.0) _ _ parts))
+      subst (λ e. IsPermutation (families old) (e ∷ families new)) (sym leads) (IsPermutation-trans _ _ _ (subst (λ es. IsPermutation (families old) (es ++ families rest)) splits families_held) (IsPermutation-cons (ending x.0) _ _ parts))
 
 pub IsFamily-next : (t next : Tail) → IsFamily t → family t ≡ ending t ∷ family next → 0 < length next.ordinals → IsFamily next
 IsFamily-next t next is splits some =
@@ -176,16 +185,6 @@ IsQueue-pushed old new y queue is pushed keeps =
     all : All (λ (t : Reverse Tail). IsFamily t.0) (y ∷ old)
     all zero d inside = is
     all (suc k) d inside = queue.families k d (omega (arith, inside))
-
--- what a push that succeeds gives
-pub pushed_ok : {T E : Type 0} {P Q R : Type 0} (r : Result T E) → IsOk r → (P → Q → R) → OnOk r P → OnOk r Q → R
-pushed_ok (Ok _) is f p q = f p q
-pushed_ok (Err _) is f p q = absurd (let clash : false ≡ true = is in cc)
-
--- a tail of which no sibling is left
-pub none_family : (t : Tail) (r : Option Tail) → ((next : Tail) → r ≢ Some next) → family t ≡ ending t ∷ family_of r → family t ≡ ending t ∷ []
-none_family t None none splits = splits
-none_family t (Some next) none splits = absurd (none next refl)
 
 -- a tail comes in, in the place of the one that left
 pub Replaces-pushed : (old rest new : List (Reverse Tail)) (y : Reverse Tail) → LosesFirst (families old) (families rest) → IsPermutation (y ∷ rest) new → Replaces (families old) (family y.0) (families new)

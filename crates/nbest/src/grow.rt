@@ -84,8 +84,9 @@ fn siblings<D: DataSet>(
     ensures small { IfOk result (λ made. All (λ (s : Sibling). IsWithin (2 * most_reached) s.added) made.items) }
 {
     let entries = lattice.entries.as_slice();
-    let mut siblings = Vec::new(alloc);
-    for ordinal in ending_at(entries, lattice.by_end.as_slice(), join.begin) {
+    let ending = ending_at(entries, lattice.by_end.as_slice(), join.begin);
+    let mut siblings = Vec::with_capacity(alloc, ending.len())?;
+    for ordinal in ending {
         if span.begin <= entries[*ordinal as usize].begin {
             siblings.push(sibling(set, entries, costs, join.lid, *ordinal))?;
         }

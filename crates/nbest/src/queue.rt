@@ -3,11 +3,12 @@ ghost use Rattle.std.specs.BinaryHeap.{heap_capacity, heap_items, heap_len};
 ghost use Rattle.std.specs.List.Sorted.{IsPermutation};
 ghost use Rattle.nbest.specs.Tails.{IsFamily, IsFirstOf, IsQueue, LosesFirst, Replaces, ending, families, family_of};
 
-use crate::tail::{Tail, next_sibling};
+use crate::tail::{Tail, pass_to_next};
 use mz_base::NoMemory;
 use std::alloc::Global;
 use std::cmp::Reverse;
 use std::collections::BinaryHeap;
+use std::collections::binary_heap::PeekMut;
 use std::marker::Model;
 
 /// Tails that a search has not looked at, the first in their order at hand. A tail stands in the heap for its siblings
@@ -74,7 +75,7 @@ impl Queue {
     }
 }
 
-/// Takes the first tail out of a heap, and puts its next sibling in, for which there is room.
+/// Takes the first tail out of a heap, and puts its next sibling in its place, if there is one.
 fn pass_first(heap: &mut BinaryHeap<Reverse<Tail>>)
     requires some { 0 < heap_len heap.old }
     requires queue { IsQueue (heap_items heap.old) }
@@ -83,10 +84,10 @@ fn pass_first(heap: &mut BinaryHeap<Reverse<Tail>>)
     ensures len { heap_len heap.new ≤ heap_len heap.old }
     ensures capacity { heap_capacity heap.old ≤ heap_capacity heap.new }
 {
-    let Some(Reverse(tail)) = heap.pop() else {
+    let Some(mut top) = heap.peek_mut() else {
         unreachable!();
     };
-    if let Some(next) = next_sibling(tail) {
-        let _pushed = heap.push(Reverse(next));
+    if !pass_to_next(&mut top.0) {
+        PeekMut::pop(top);
     }
 }

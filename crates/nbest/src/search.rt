@@ -99,10 +99,35 @@ impl NBest {
         ensures search { IsSearch (D.lists set.now) lattice.now self.new }
         ensures span { self.new.span ≡ self.old.span }
     {
+        let room = Vec::new(self.alloc);
+        self.next_in(set, lattice, room)
+    }
+
+    /// The same, with a vector to put the path into. What it had is forgotten.
+    pub fn next_in<D: DataSet>(
+        &mut self,
+        set: &D,
+        lattice: &Lattice,
+        room: Vec<u32>,
+    ) -> Result<Option<Found>, NoMemory>
+        requires well { IsWellFormed (D.lists set.now) lattice.now }
+        requires search { IsSearch (D.lists set.now) lattice.now self.old }
+
+        // It is the first of those that were still to come, and the rest remain.
+        ensures found { IfOk result (λ found. found ≡ first_found (D.lists set.now) lattice.now.entries self.old.span (still_to_come (D.lists set.now) lattice.now.entries self.old)) }
+        ensures rest { OnOk result (still_to_come (D.lists set.now) lattice.now.entries self.new ≡ drop 1 (still_to_come (D.lists set.now) lattice.now.entries self.old)) }
+
+        // Without memory no path is lost.
+        ensures err { OnErr result (still_to_come (D.lists set.now) lattice.now.entries self.new ≡ still_to_come (D.lists set.now) lattice.now.entries self.old) }
+
+        // The search goes on in the same set and lattice.
+        ensures search { IsSearch (D.lists set.now) lattice.now self.new }
+        ensures span { self.new.span ≡ self.old.span }
+    {
         while self.is_open(lattice.entries.as_slice()) {
             self.lengthen(set, lattice)?;
         }
-        self.take()
+        self.take(room)
     }
 
     /// Whether the first tail lacks entries.
@@ -148,7 +173,7 @@ impl NBest {
     }
 
     /// Takes the first tail as a path. Room is made before anything changes.
-    fn take(&mut self) -> Result<Option<Found>, NoMemory>
+    fn take(&mut self, mut path: Vec<u32>) -> Result<Option<Found>, NoMemory>
         ensures ok { IfOk result (λ found. Gives self.old self.new found) }
         ensures err { OnErr result (self.new ≡ self.old) }
     {
@@ -161,7 +186,7 @@ impl NBest {
             ..
         } = &first.0;
         let cost = *estimate;
-        let mut path = Vec::new(self.alloc);
+        path.clear();
         ordinals.add_to(&mut path)?;
         self.queue.drop_first();
         Ok(Some(Found {

@@ -1,5 +1,5 @@
-ghost use Rattle.std.specs.Prelude.{◌≡◌, ◌<◌, ◌∷◌, IfSome, length};
-ghost use Rattle.nbest.specs.Tails.{IsFamily, ending, family, family_of};
+ghost use Rattle.std.specs.Prelude.{◌≡◌, ◌<◌, ◌∷◌, [], true, false, length};
+ghost use Rattle.nbest.specs.Tails.{IsFamily, ending, family};
 
 use crate::chain::Chain;
 use std::sync::Arc;
@@ -28,15 +28,19 @@ pub struct Sibling {
     pub ordinal: u32,
 }
 
-/// The tail that has the next sibling in the place of its first entry.
-pub fn next_sibling(mut tail: Tail) -> Option<Tail>
-    requires { IsFamily tail }
-    ensures family { family tail ≡ ending tail ∷ family_of result }
-    ensures some { IfSome result (λ next. 0 < length next.ordinals) }
+/// Puts the next sibling in the place of a tail's first entry, and says whether there is one.
+pub fn pass_to_next(tail: &mut Tail) -> bool
+    requires { IsFamily tail.old }
+    ensures next { result ≡ true → family tail.old ≡ ending tail.old ∷ family tail.new }
+    ensures last { result ≡ false → family tail.old ≡ ending tail.old ∷ [] }
+    ensures some { 0 < length tail.new.ordinals }
 {
-    let sibling = *tail.siblings.as_slice().get(tail.next)?;
+    let Some(next) = tail.siblings.as_slice().get(tail.next) else {
+        return false;
+    };
+    let sibling = *next;
     tail.ordinals.set_first(sibling.ordinal);
     tail.estimate = sibling.added + tail.rest;
     tail.next += 1;
-    Some(tail)
+    true
 }

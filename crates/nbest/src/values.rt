@@ -26,32 +26,35 @@ pub fn distinct<D: DataSet, U: UserWords>(
     let solved = solve(alloc, set, lattice, span)?;
     let mut search = NBest::new(alloc, set, lattice, span, &solved)?;
     let mut values = Vec::new(alloc);
+    let mut path = Vec::new(alloc);
+    let mut text = Vec::new(alloc);
     for _place in 0..MOST_PATHS {
         if values.len() == MOST_VALUES {
             return Ok(values);
         }
-        let Some(found) = search.next(set, lattice)? else {
+        let Some(found) = search.next_in(set, lattice, path)? else {
             return Ok(values);
         };
-        let text = path_value(alloc, set, user, lattice, found.path.as_slice())?;
-        add(&mut values, text, found.cost)?;
+        text = path_value(set, user, lattice, found.path.as_slice(), text)?;
+        add(alloc, &mut values, text.as_slice(), found.cost)?;
+        path = found.path.into_vec();
     }
     Ok(values)
 }
 
-/// The values of a path's entries, one after the other.
+/// The values of a path's entries, one after the other, in place of what the vector had.
 fn path_value<D: DataSet, U: UserWords>(
-    alloc: Global,
     set: &D,
     user: &U,
     lattice: &Lattice,
     path: &[u32],
+    mut text: Vec<char>,
 ) -> Result<Vec<char>, NoMemory>
     requires made { IsLatticeOf (D.lists set.now) (U.rows user.now) lattice.now }
     requires inside { All (λ o. o < length lattice.now.entries) path.now }
-    ensures { IfOk result (λ text. text.items ≡ path_value (D.lists set.now) (U.rows user.now) lattice.now.key lattice.now.entries path.now) }
+    ensures { IfOk result (λ made. made.items ≡ path_value (D.lists set.now) (U.rows user.now) lattice.now.key lattice.now.entries path.now) }
 {
-    let mut text = Vec::new(alloc);
+    text.clear();
     for ordinal in path {
         text.extend_from_slice(value_of(lattice, set, user, *ordinal))?;
     }
@@ -59,14 +62,14 @@ fn path_value<D: DataSet, U: UserWords>(
 }
 
 /// Adds a value with its cost, unless it is there.
-fn add(values: &mut Vec<Candidate>, text: Vec<char>, cost: i64) -> Result<(), NoMemory>
-    ensures { OnOk result (values.new.items ≡ values.old.items ++ (if is_new values.old.items text.items then record { value = text.items; cost = Some cost } ∷ [] else [])) }
+fn add(alloc: Global, values: &mut Vec<Candidate>, text: &[char], cost: i64) -> Result<(), NoMemory>
+    ensures { OnOk result (values.new.items ≡ values.old.items ++ (if is_new values.old.items text.now then record { value = text.now; cost = Some cost } ∷ [] else [])) }
 {
-    if has_value(values.as_slice(), text.as_slice()) {
+    if has_value(values.as_slice(), text) {
         return Ok(());
     }
     values.push(Candidate {
-        value: Text::from_vec(text),
+        value: Text::from_chars(alloc, text)?,
         cost: Some(cost),
     })?;
     Ok(())

@@ -163,12 +163,12 @@ module _ (es : List Entry) (by_end : List ℕ) (span : Span) (table : List Reach
       end_before k low (inr (inr more)) =
           let e = from.ends k (omega (arith, more)) low in omega (arith, e, to_is)
 
--- at the begin of a key nothing ends
-pub AreAllArrivals-none : (es : List Entry) (by_end : List ℕ) (span : Span) (table : List Reached) (x : Arrivals) → AreForward es → x.to ≡ 0 → x.past ≡ 0 → x.list.items ≡ [] → AreAllArrivals es by_end span table x
-AreAllArrivals-none es by_end span table x forward to past none = record {
-  are = subst (λ xs. AreArrivals es span table x.to xs) (sym none) (record { each = λ k low. absurd (omega (arith, low)); all = λ o inside ends begins. absurd (let f = forward o inside in omega (arith, f, ends, to)); rising = λ i j less inside. absurd (omega (arith, inside)) });
-  within = omega (arith, past);
-  before = λ k low. absurd (omega (arith, low, past));
+-- at the begin of a span none of its entries ends
+pub AreAllArrivals-begin : (es : List Entry) (by_end : List ℕ) (span : Span) (table : List Reached) (x : Arrivals) → AreForward es → x.to ≡ span.begin → IsCursor es by_end (span.begin + 1) x.past → x.list.items ≡ [] → AreAllArrivals es by_end span table x
+AreAllArrivals-begin es by_end span table x forward to past none = record {
+  are = subst (λ xs. AreArrivals es span table x.to xs) (sym none) (record { each = λ k low. absurd (omega (arith, low)); all = λ o inside ends begins. absurd (let f = forward o inside in omega (arith, f, ends, to, begins)); rising = λ i j less inside. absurd (omega (arith, inside)) });
+  within = past.within;
+  before = λ k low. (let less = past.before k low in omega (arith, less, to));
 }
 
 -- a row more changes none

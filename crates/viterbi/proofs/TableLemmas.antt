@@ -1,22 +1,23 @@
 -- The table grows row by row.
-use Rattle.std.proofs.Common.{◌≡◌, refl, sym, ap, ◌∙◌, subst, ℕ, ◌+◌, ◌-◌, ◌<◌, ◌≤◌, ◌⊎◌, inl, inr, Bool, true, false, List, [], ◌∷◌, ◌++◌, Option, Some, None, length, arith, length-append}
-use Rattle.std.specs.Prelude.{◌≢◌, ℤ, ◌+ℤ◌}
+use Rattle.std.proofs.Common.{◌≡◌, refl, sym, ap, ◌∙◌, subst, ℕ, zero, suc, ◌+◌, ◌-◌, ◌<◌, ◌≤◌, ◌⊎◌, inl, inr, Bool, true, false, List, [], ◌∷◌, ◌++◌, Option, Some, None, length, arith, length-append}
+use Rattle.std.specs.Prelude.{◌≢◌, ℤ, ◌+ℤ◌, replicate}
 use Rattle.std.proofs.Math.ListN.{get_or-append}
 use Rattle.std.proofs.lemmas.Bool.Decides.{nat_tests}
 use Rattle.std.proofs.lemmas.Int.{ints}
-use Rattle.std.proofs.lemmas.List.{get_or_push}
+use Rattle.std.proofs.lemmas.List.{get_or_push, length-replicate}
 use Rattle.mz_base.specs.Data.{DataLists, AreDataSound, connection}
 use Rattle.mz_base.specs.declared.lattice.Entry.{Entry}
 use Rattle.mz_base.specs.declared.lattice.Lattice.{Lattice}
 use Rattle.mz_base.specs.declared.lattice.Span.{Span}
 use Rattle.conversion_meaning.specs.Bounds.{IsWithin}
-use Rattle.conversion_meaning.specs.Lattices.{IsWellFormed, entry, no_entry}
+use Rattle.conversion_meaning.specs.Lattices.{IsCursor, IsWellFormed, entry, no_entry}
 use Rattle.conversion_meaning.specs.Paths.{IsSpan}
 use Rattle.conversion_meaning.specs.Potentials.{is_in}
 use Rattle.conversion_meaning.proofs.BestLemmas.{AreForward-from_well}
 use Rattle.conversion_meaning.proofs.CostBounds.{IsWithin-least}
 use Rattle.conversion_meaning.proofs.Duality.{AreForward}
 use Rattle.conversion_meaning.proofs.LatticeLemmas.{source_first}
+use Rattle.lattice.specs.Begins.{IsBegin}
 use Rattle.viterbi.specs.declared.arrivals.Arrival.{Arrival}
 use Rattle.viterbi.specs.declared.arrivals.Arrivals.{Arrivals}
 use Rattle.viterbi.specs.declared.arrivals.Choice.{Choice}
@@ -25,7 +26,7 @@ use Rattle.viterbi.specs.declared.table.Target.{Target}
 use Rattle.viterbi.specs.Arrivals.{IsArrival, AreAllArrivals, AreArrivals, AreSound, IsUpTo, IsCheapest, IsChoice, IsReachedBy, arrival, after_choice, at_begin, choice_of, target_of}
 use Rattle.viterbi.specs.Back.{IsWayBack, cost_back}
 use Rattle.viterbi.specs.Table.{reached, no_reached, IsTrail, IsReached, IsTable, most_reached}
-use Rattle.viterbi.proofs.ArrivalLemmas.{AreAllArrivals-none, AreAllArrivals-push, each_push, last_or_before}
+use Rattle.viterbi.proofs.ArrivalLemmas.{AreAllArrivals-begin, AreAllArrivals-push, each_push, last_or_before}
 use Rattle.viterbi.proofs.BackLemmas.{IsWayBack-forward, IsFirstBack-start, IsFirstBack-via, IsLeastCost-from_first, IsWay, IsUpToOver, IsBeaten}
 
 -- a trail goes on in a longer table
@@ -50,6 +51,11 @@ IsTrail-one table last (o ∷ p) (x ∷ q) a b =
 pub IsReached-grow : (d : DataLists) (es : List Entry) (span : Span) (table : List Reached) (more : Reached) (to lid : ℕ) (own : ℤ) (r : Reached) → IsReached d es span table to lid own r → IsReached d es span (table ++ more ∷ []) to lid own r
 IsReached-grow d es span table more to lid own r is =
     record { back = is.back; trail = IsTrail-grow table more r.before is.back is.trail; first = is.first; cost_is = is.cost_is }
+
+says_nothing : (n o : ℕ) → reached (replicate n no_reached) o ≡ no_reached
+says_nothing zero o = refl
+says_nothing (suc n) zero = refl
+says_nothing (suc n) (suc o) = says_nothing n o
 
 module _ (d : DataLists) (es : List Entry) (span : Span) where
   -- the table with one row more
@@ -86,9 +92,19 @@ module _ (d : DataLists) (es : List Entry) (span : Span) where
       fall : (o before : ℕ) → o < length (table ++ r ∷ []) → (reached (table ++ r ∷ []) o).before ≡ Some before → before < o
       fall o before low e = fall_at o before (last_or_before o (length table) (omega (arith, low, longer))) e
 
-  pub IsTable-empty : IsTable d es span []
-  IsTable-empty =
-      record { rows = λ o low inside. absurd (omega (arith, low)); small = λ o low. absurd (omega (arith, low)); falls = λ o before low e. absurd (omega (arith, low)) }
+  -- rows that say nothing, of entries that begin before the span
+  pub IsTable-nothing : (before : ℕ) → ((o : ℕ) → o < before → (entry es o).begin < span.begin) → IsTable d es span (replicate before no_reached)
+  IsTable-nothing before earlier = record {
+    rows = λ o low inside. absurd (let less = earlier o (below o low) in omega (arith, less, begins o inside));
+    small = λ o low. subst (λ (x : Reached). IsWithin most_reached x.cost) (sym (says_nothing before o)) (record { above = omega (arith, ints); below = omega (arith, ints) });
+    falls = λ o x low known. (let f : None ≡ Some x = ap (λ (y : Reached). y.before) (sym (says_nothing before o)) ∙ known in cc);
+  }
+    where
+      below : (o : ℕ) → o < length (replicate before no_reached) → o < before
+      below o low = omega (arith, low, length-replicate before no_reached)
+
+      begins : (o : ℕ) → is_in span (entry es o) ≡ true → span.begin ≤ (entry es o).begin
+      begins o inside = grind (arith, nat_tests)
 
   -- what the target is reached from, where its choice is the cheapest arrival
   pub IsReached-begin : AreForward es → (table : List Reached) (target : Target) → target.begin ≡ span.begin → IsReached d es span table target.begin target.lid target.cost (at_begin d span target)
@@ -154,6 +170,9 @@ module _ (d : DataLists) (es : List Entry) (span : Span) where
     pub IsReached-chosen : (choice : Option Choice) → span.begin ≢ target.begin → 0 < length xs → IsChoice d xs target.lid choice → IsReached d es span table target.begin target.lid target.cost (after_choice target.cost choice)
     IsReached-chosen None apart some none = absurd (omega (arith, some, none))
     IsReached-chosen (Some choice) apart some cheapest = IsReached-cheapest choice apart cheapest
+
+pub order : (a b : ℕ) → (a < b) ⊎ (b ≤ a)
+order a b = grind arith
 
 equal_or_not : (a b : ℕ) → (a ≡ b) ⊎ (a ≢ b)
 equal_or_not a b = grind arith
@@ -272,9 +291,14 @@ pub record IsSoFar (d : DataLists) (l : Lattice) (span : Span) (here : Arrivals)
   pub later : (o : ℕ) → n ≤ o → o < length l.entries → here.to ≤ (entry l.entries o).begin
 
 module _ (d : DataLists) (l : Lattice) (span : Span) (well : IsWellFormed d l) where
-  pub IsSoFar-none : (here : Arrivals) → here.to ≡ 0 → here.past ≡ 0 → here.list.items ≡ [] → IsSoFar d l span here [] 0
-  IsSoFar-none here to past none =
-      record { count = refl; is = IsTable-empty d l.entries span; all = AreAllArrivals-none l.entries l.by_end span [] here (AreForward-from_well d l well) to past none; later = λ o high inside. omega (arith, to) }
+  -- before the first entry of the span nothing is reached, and no entry of it ends at its begin
+  pub IsSoFar-begin : (here : Arrivals) (first : ℕ) → IsBegin l.entries span.begin first → here.to ≡ span.begin → IsCursor l.entries l.by_end (span.begin + 1) here.past → here.list.items ≡ [] → IsSoFar d l span here (replicate first no_reached) first
+  IsSoFar-begin here first at to past none = record {
+    count = length-replicate first no_reached;
+    is = IsTable-nothing d l.entries span first at.before;
+    all = AreAllArrivals-begin l.entries l.by_end span (replicate first no_reached) here (AreForward-from_well d l well) to past none;
+    later = λ o high low. (let after = at.after o high low in omega (arith, after, to));
+  }
 
   pub IsSoFar-next : IsSpan d l span → AreDataSound d → (before here : Arrivals) (table : List Reached) (n : ℕ) (next : Entry) (r : Reached) → IsSoFar d l span before table n → n < length l.entries → next ≡ entry l.entries n → AreAllArrivals l.entries l.by_end span table here → here.to ≡ next.begin → (is_in span next ≡ true → IsReachedBy d span here.list.items (target_of next) r) → (is_in span next ≡ false → r ≡ no_reached) → IsSoFar d l span here (table ++ r ∷ []) (n + 1)
   IsSoFar-next spans sound before here table n next r so_far room same all to row out =
@@ -287,3 +311,41 @@ module _ (d : DataLists) (l : Lattice) (span : Span) (well : IsWellFormed d l) w
         all = AreAllArrivals-push l.entries l.by_end span table r here all;
         later = λ o high low. (let e = (well.rising n o no_entry (omega (arith, high)) low).begins in let f = ap (λ (x : Entry). x.begin) same in omega (arith, e, f, to));
       }
+
+-- ---- The whole table
+
+module _ (es : List Entry) (span : Span) (forward : AreForward es) where
+  -- where all have rows that begin before the span ends, each entry of the span has one
+  pub in_table : (n o : ℕ) → IsBegin es span.end n → o < length es → is_in span (entry es o) ≡ true → o < n
+  in_table n o at low inside = by_order (order o n)
+    where
+      by_order : (o < n) ⊎ (n ≤ o) → o < n
+      by_order (inl less) = less
+      by_order (inr more) =
+          let after = at.after o more low in
+          let ahead = forward o low in
+          let ends : (entry es o).end ≤ span.end = grind (arith, nat_tests) in
+          absurd (omega (arith, after, ahead, ends))
+
+  -- and so has each that ends where the span does
+  pub ends_in_table : (n o : ℕ) → IsBegin es span.end n → o < length es → (entry es o).end ≡ span.end → o < n
+  ends_in_table n o at low ends = by_order (order o n)
+    where
+      by_order : (o < n) ⊎ (n ≤ o) → o < n
+      by_order (inl less) = less
+      by_order (inr more) =
+          let after = at.after o more low in
+          let ahead = forward o low in
+          absurd (omega (arith, after, ahead, ends))
+
+-- the first entries of a span stand no later than the first behind it
+pub begins_in_order : (es : List Entry) (begin end first past : ℕ) → begin ≤ end → IsBegin es begin first → IsBegin es end past → first ≤ past
+begins_in_order es begin end first past before at behind = by_order (order past first)
+  where
+    by_order : (past < first) ⊎ (first ≤ past) → first ≤ past
+    by_order (inr low) = low
+    by_order (inl less) =
+        let within = at.within in
+        let low = at.before past less in
+        let high = behind.after past (omega arith) (omega (arith, less, within)) in
+        absurd (omega (arith, low, high, before))

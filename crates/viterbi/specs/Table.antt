@@ -7,6 +7,7 @@ use Rattle.mz_base.specs.declared.lattice.Span.{Span}
 use Rattle.conversion_meaning.specs.Bounds.{IsWithin, most_step}
 use Rattle.conversion_meaning.specs.Lattices.{entry}
 use Rattle.conversion_meaning.specs.Potentials.{is_in}
+use Rattle.lattice.specs.Begins.{IsBegin}
 use Rattle.viterbi.specs.declared.table.Reached.{Reached}
 use Rattle.viterbi.specs.Back.{IsFirstBack, cost_back}
 
@@ -39,7 +40,7 @@ pub record IsTable (d : DataLists) (es : List Entry) (span : Span) (table : List
   pub small : (o : ℕ) → o < length table → IsWithin most_reached (reached table o).cost
   pub falls : (o before : ℕ) → o < length table → (reached table o).before ≡ Some before → before < o
 
--- the table of all entries
+-- the table of all entries that begin before the span ends
 pub record IsWholeTable (d : DataLists) (es : List Entry) (span : Span) (table : List Reached) : Type 0 where
-  pub count : length table ≡ length es
+  pub all : IsBegin es span.end (length table)
   pub is : IsTable d es span table

@@ -1,11 +1,13 @@
-ghost use Rattle.std.specs.Prelude.{◌≡◌, ℕ, ◌*◌, ◌<◌, ◌≤◌, ◌+ℤ◌, [], length, IfOk};
+ghost use Rattle.std.specs.Prelude.{◌≡◌, ℕ, ◌+◌, ◌*◌, ◌<◌, ◌≤◌, ◌+ℤ◌, [], length, IfOk};
+ghost use Rattle.mz_base.specs.declared.lattice.TheConstants.{MOST_KEY};
 ghost use Rattle.conversion_meaning.specs.Bounds.{IsWithin};
 ghost use Rattle.conversion_meaning.specs.Lattices.{IsByEnd, IsCursor, entry};
 ghost use Rattle.viterbi.specs.Arrivals.{AreAllArrivals, AreSound, IsChoice, IsFirstLeast, IsLesser, IsReachedBy, cost_at};
 ghost use Rattle.viterbi.specs.Table.{most_reached, reached};
 
-use crate::table::{Reached, Target};
-use lattice::first_from;
+use crate::rows::Rows;
+use crate::table::{Reached, Target, not_reached};
+use lattice::{first_at, first_from};
 use mz_base::{DataSet, Entry, NoMemory, Span};
 use std::alloc::Global;
 
@@ -42,15 +44,17 @@ pub struct Arrivals {
     pub list: Vec<Arrival>,
 }
 
-/// Those at the begin of a key, where no entry ends.
-pub fn arrivals_at_begin(alloc: Global) -> Arrivals
-    ensures to { result.to ≡ 0 }
-    ensures past { result.past ≡ 0 }
+/// Those at the begin of a span, where no entry of it ends.
+pub fn arrivals_at_begin(alloc: Global, entries: &[Entry], by_end: &[u32], span: &Span) -> Arrivals
+    requires by_end { IsByEnd entries.now by_end.now }
+    requires inside { span.now.begin < MOST_KEY }
+    ensures to { result.to ≡ span.now.begin }
+    ensures past { IsCursor entries.now by_end.now (span.now.begin + 1) result.past }
     ensures none { result.list.items ≡ [] }
 {
     Arrivals {
-        to: 0,
-        past: 0,
+        to: span.begin,
+        past: first_at(entries, by_end, span.begin + 1),
         list: Vec::new(alloc),
     }
 }
@@ -59,7 +63,7 @@ pub fn arrivals_at_begin(alloc: Global) -> Arrivals
 pub fn arrivals_from(
     entries: &[Entry],
     by_end: &[u32],
-    table: &[Reached],
+    table: &Rows,
     span: &Span,
     here: Arrivals,
     to: u16,
@@ -79,11 +83,37 @@ pub fn arrivals_from(
     arrivals_at(entries, by_end, table, span, here.list, cursor, to)
 }
 
+/// The arrivals at the end of the span.
+pub fn arrivals_at_end(
+    alloc: Global,
+    entries: &[Entry],
+    by_end: &[u32],
+    table: &Rows,
+    span: &Span,
+) -> Result<Arrivals, NoMemory>
+    requires by_end { IsByEnd entries.now by_end.now }
+    requires reached { (o : ℕ) → o < length entries.now → (entry entries.now o).end ≡ span.now.end → o < length table.now }
+    requires small { (o : ℕ) → o < length table.now → IsWithin most_reached (reached table.now o).cost }
+    ensures to { IfOk result (λ there. there.to ≡ span.now.end) }
+    ensures all { IfOk result (AreAllArrivals entries.now by_end.now span.now table.now) }
+{
+    let cursor = first_at(entries, by_end, span.end);
+    arrivals_at(
+        entries,
+        by_end,
+        table,
+        span,
+        Vec::new(alloc),
+        cursor,
+        span.end,
+    )
+}
+
 /// The entries of the span that end at the position `to`, from its cursor on, in place of those in the list.
 fn arrivals_at(
     entries: &[Entry],
     by_end: &[u32],
-    table: &[Reached],
+    table: &Rows,
     span: &Span,
     mut list: Vec<Arrival>,
     cursor: usize,
@@ -105,7 +135,7 @@ fn arrivals_at(
         }
         if span.begin <= entry.begin {
             list.push(Arrival {
-                cost: table[ordinal as usize].cost,
+                cost: table.at(ordinal as usize).cost,
                 ordinal,
                 rid: entry.rid,
             })?;
@@ -134,10 +164,7 @@ pub fn reach<D: DataSet>(set: &D, arrivals: &[Arrival], span: &Span, target: &Ta
             cost: plus(choice.cost, target.cost),
             before: Some(choice.ordinal),
         },
-        None => Reached {
-            cost: 0,
-            before: None,
-        },
+        None => not_reached(),
     }
 }
 

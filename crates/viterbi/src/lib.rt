@@ -3,6 +3,7 @@
 #![tactic(auto)]
 
 mod arrivals;
+mod rows;
 mod solver;
 mod table;
 

@@ -27,9 +27,9 @@ pub fn solve<D: DataSet>(
     ensures bounds { IfOk result (λ c. c.bounds ≡ lattice.now.bounds) }
 {
     let table = table_of(alloc, set, lattice, span)?;
-    let last = reach_end(alloc, set, lattice, span, table.as_slice())?;
-    let path = trail(alloc, table.as_slice(), last.before)?;
-    let costs = potentials(alloc, lattice.entries.as_slice(), table.as_slice(), span)?;
+    let last = reach_end(alloc, set, lattice, span, &table)?;
+    let path = trail(alloc, &table, last.before)?;
+    let costs = potentials(alloc, lattice.entries.as_slice(), &table, span)?;
     let bounds = Vec::from_slice(alloc, lattice.bounds.as_slice())?;
     Ok(Certificate {
         bounds: Seq::from_vec(bounds),

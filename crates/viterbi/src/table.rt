@@ -1,13 +1,15 @@
-ghost use Rattle.std.specs.Prelude.{◌≡◌, ℕ, ◌<◌, pos, true, false, List, Option, Some, length, map, reverse, IfOk, IfSome};
+ghost use Rattle.std.specs.Prelude.{◌≡◌, ℕ, ◌<◌, ◌≤◌, pos, true, false, AllPairs, List, Option, Some, length, map, reverse, IfOk, IfSome};
 ghost use Rattle.mz_base.specs.Data.{IsCost};
 ghost use Rattle.conversion_meaning.specs.Bounds.{IsWithin};
-ghost use Rattle.conversion_meaning.specs.Lattices.{IsWellFormed};
+ghost use Rattle.conversion_meaning.specs.Lattices.{AreInOrder, IsWellFormed, entry};
 ghost use Rattle.conversion_meaning.specs.Paths.{IsSpan};
 ghost use Rattle.conversion_meaning.specs.Potentials.{is_in, ordinals_in};
 ghost use Rattle.viterbi.specs.Arrivals.{AreSound, IsReachedBy, target_of};
 ghost use Rattle.viterbi.specs.Table.{IsReached, IsTrail, IsWholeTable, most_reached, no_reached, reached};
 
-use crate::arrivals::{Arrival, arrivals_at_begin, arrivals_from, reach};
+use crate::arrivals::{Arrival, arrivals_at_begin, arrivals_at_end, arrivals_from, reach};
+use crate::rows::Rows;
+use lattice::first_beginning_at;
 use mz_base::{DataSet, Entry, Lattice, NoMemory, Span};
 use std::alloc::Global;
 
@@ -20,6 +22,16 @@ pub struct Reached {
     pub before: Option<u32>,
 }
 
+/// A row that says nothing.
+pub fn not_reached() -> Reached
+    ensures { result ≡ no_reached }
+{
+    Reached {
+        cost: 0,
+        before: None,
+    }
+}
+
 /// What is to be reached: an entry, or the end of a span.
 #[derive(Clone, Copy)]
 pub struct Target {
@@ -28,24 +40,27 @@ pub struct Target {
     pub cost: i32,
 }
 
-/// The table of all entries of a lattice. Those that are not of the span have rows that say nothing.
+/// The table of the entries that begin before the span ends. Those that are not of the span have rows that say nothing.
 pub fn table_of<D: DataSet>(
     alloc: Global,
     set: &D,
     lattice: &Lattice,
     span: &Span,
-) -> Result<Vec<Reached>, NoMemory>
+) -> Result<Rows, NoMemory>
     requires well { IsWellFormed (D.lists set.now) lattice.now }
     requires span { IsSpan (D.lists set.now) lattice.now span.now }
-    ensures { IfOk result (λ table. IsWholeTable (D.lists set.now) lattice.now.entries span.now table.items) }
+    ensures { IfOk result (λ table. IsWholeTable (D.lists set.now) lattice.now.entries span.now table) }
 {
     let entries = lattice.entries.as_slice();
     let by_end = lattice.by_end.as_slice();
-    let mut table = Vec::with_capacity(alloc, entries.len())?;
-    let mut here = arrivals_at_begin(alloc);
-    for next in entries {
-        here = arrivals_from(entries, by_end, table.as_slice(), span, here, next.begin)?;
-        table.push(row_of(set, span, here.list.as_slice(), next))?;
+    let first = first_beginning_at(entries, span.begin);
+    let end = first_beginning_at(entries, span.end);
+    let mut table = Rows::new(alloc, first, end.saturating_sub(first))?;
+    let mut here = arrivals_at_begin(alloc, entries, by_end, span);
+    for o in first..end {
+        let next = &entries[o];
+        here = arrivals_from(entries, by_end, &table, span, here, next.begin)?;
+        table.push(&row_of(set, span, here.list.as_slice(), next))?;
     }
     Ok(table)
 }
@@ -60,10 +75,7 @@ fn row_of<D: DataSet>(set: &D, span: &Span, arrivals: &[Arrival], next: &Entry) 
     ensures outside { is_in span.now next.now ≡ false → result ≡ no_reached }
 {
     if !is_in(span, next) {
-        return Reached {
-            cost: 0,
-            before: None,
-        };
+        return not_reached();
     }
     let target = Target {
         begin: next.begin,
@@ -79,7 +91,7 @@ pub fn reach_end<D: DataSet>(
     set: &D,
     lattice: &Lattice,
     span: &Span,
-    table: &[Reached],
+    table: &Rows,
 ) -> Result<Reached, NoMemory>
     requires well { IsWellFormed (D.lists set.now) lattice.now }
     requires span { IsSpan (D.lists set.now) lattice.now span.now }
@@ -88,8 +100,7 @@ pub fn reach_end<D: DataSet>(
 {
     let entries = lattice.entries.as_slice();
     let by_end = lattice.by_end.as_slice();
-    let begin = arrivals_at_begin(alloc);
-    let there = arrivals_from(entries, by_end, table, span, begin, span.end)?;
+    let there = arrivals_at_end(alloc, entries, by_end, table, span)?;
     let end = Target {
         begin: span.end,
         lid: span.right,
@@ -105,7 +116,7 @@ fn is_in(span: &Span, entry: &Entry) -> bool
 }
 
 /// The ordinals over which the table leads to this one, from the first to the last.
-pub fn trail(alloc: Global, table: &[Reached], last: Option<u32>) -> Result<Vec<u32>, NoMemory>
+pub fn trail(alloc: Global, table: &Rows, last: Option<u32>) -> Result<Vec<u32>, NoMemory>
     requires falls { (o before : ℕ) → o < length table.now → (reached table.now o).before ≡ Some before → before < o }
     requires last { IfSome last (λ o. o < length table.now) }
     ensures { IfOk result (λ path. (back : List ℕ) × IsTrail table.now last back × (path.items ≡ reverse back)) }
@@ -114,7 +125,7 @@ pub fn trail(alloc: Global, table: &[Reached], last: Option<u32>) -> Result<Vec<
     let mut at = last;
     while let Some(ordinal) = at {
         path.push(ordinal)?;
-        at = table[ordinal as usize].before;
+        at = table.at(ordinal as usize).before;
     }
     Ok(reversed(path))
 }
@@ -130,17 +141,21 @@ fn reversed(mut path: Vec<u32>) -> Vec<u32>
 pub fn potentials(
     alloc: Global,
     entries: &[Entry],
-    table: &[Reached],
+    table: &Rows,
     span: &Span,
 ) -> Result<Vec<i64>, NoMemory>
-    requires count { length table.now ≡ length entries.now }
+    requires rising { AllPairs AreInOrder entries.now }
+    requires ahead { (o : ℕ) → o < length entries.now → (entry entries.now o).begin < (entry entries.now o).end }
+    requires span { span.now.begin ≤ span.now.end }
     requires small { (o : ℕ) → o < length table.now → IsWithin most_reached (reached table.now o).cost }
     ensures { IfOk result (λ costs. costs.items ≡ map (λ o. (reached table.now o).cost) (ordinals_in entries.now span.now)) }
 {
-    let mut costs = Vec::new(alloc);
-    for o in 0..entries.len() {
+    let first = first_beginning_at(entries, span.begin);
+    let end = first_beginning_at(entries, span.end);
+    let mut costs = Vec::with_capacity(alloc, end.saturating_sub(first))?;
+    for o in first..end {
         if is_in(span, &entries[o]) {
-            costs.push(table[o].cost)?;
+            costs.push(table.at(o).cost)?;
         }
     }
     Ok(costs)

@@ -9,6 +9,6 @@ use Rattle.nbest.proofs.grow.siblings.Given as goal
 
 abbrev pub invariant-loop-ordinal : goal.invariant-loop-ordinal
 invariant-loop-ordinal g l = record {
-  all : l.siblings.items ++ map (sibling (g.D.DataSet.lists l.set) l.entries l.costs l.join.lid) (filter (begins_in l.entries l.span) (drop l.ordinal-index l.ordinal-items)) ≡ map (sibling (g.D.DataSet.lists l.set) l.entries l.costs l.join.lid) (filter (begins_in l.entries l.span) l.ordinal-items);
+  all : l.siblings.items ++ map (sibling (g.D.DataSet.lists l.set) l.entries l.costs l.join.lid) (filter (begins_in l.entries l.span) (drop l.ordinal-index l.ending)) ≡ map (sibling (g.D.DataSet.lists l.set) l.entries l.costs l.join.lid) (filter (begins_in l.entries l.span) l.ending);
   small : All (λ (s : Sibling). IsWithin (2 * most_reached) s.added) l.siblings.items;
 }

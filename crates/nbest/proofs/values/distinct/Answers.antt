@@ -19,12 +19,12 @@ pub new-requires-clause-well : goal.new-requires-clause-well
 new-requires-clause-well g c =
     IsWellFormed-from_entries (g.D.DataSet.lists c.args.set.now) (g.U.UserWords.rows c.args.user.now) c.args.lattice.now (g.met.D.DataSet.sound c.args.set.now) c.requires.made
 
-pub next-requires-clause-well : goal.next-requires-clause-well
-next-requires-clause-well g c =
+pub next_in-requires-clause-well : goal.next_in-requires-clause-well
+next_in-requires-clause-well g c =
     IsWellFormed-from_entries (g.D.DataSet.lists c.args.set.now) (g.U.UserWords.rows c.args.user.now) c.args.lattice.now (g.met.D.DataSet.sound c.args.set.now) c.requires.made
 
-pub next-requires-clause-search : goal.next-requires-clause-search
-next-requires-clause-search g c = c.loop-place.invariant.search
+pub next_in-requires-clause-search : goal.next_in-requires-clause-search
+next_in-requires-clause-search g c = c.loop-place.invariant.search
 
 pub loop-place-init : goal.loop-place-init
 loop-place-init g c =
@@ -91,11 +91,11 @@ loop-place-preserved g c =
     let inside = c.requires.span.inside in
     let most = well.key.few in
     let cost_is : to_z w64 (of_z w64 f.cost) ≡ path_cost d l.entries span r.0 = (let e = ap (λ (x : Found). x.cost) r.2 in let same : to_z w64 (of_z w64 f.cost) ≡ f.cost = omega (arith, ints, above, below, inside, most) in same ∙ e) in
-    let text_is = c.in_ok-text.ensures ∙ ap (path_value d rows l.key l.entries) (c.as_slice.ensures ∙ ap (λ (x : Found). x.path) r.2) in
-    let added = added_is d rows l span values c.add.new.values.items c.in_ok-text.text.items r.0 (to_z w64 (of_z w64 f.cost)) c.in_ok-add.ensures text_is cost_is in
+    let text_is = c.as_slice-in-loop-place.ensures.value ∙ c.in_ok-text.ensures ∙ ap (path_value d rows l.key l.entries) (c.as_slice.ensures ∙ ap (λ (x : Found). x.path) r.2) in
+    let added = added_is d rows l span values c.add.new.values.items c.as_slice-in-loop-place.result.now r.0 (to_z w64 (of_z w64 f.cost)) c.in_ok-add.ensures text_is cost_is in
     record {
-      search = c.next.ensures.search;
-      span = c.next.ensures.span ∙ c.loop-place.invariant.span;
+      search = c.next_in.ensures.search;
+      span = c.next_in.ensures.span ∙ c.loop-place.invariant.span;
       made = subst (λ ps. IsGathered d rows l span c.add.new.values.items n ps) (sym c.in_ok-found.ensures.rest) (IsGathered-more d rows l span values c.add.new.values.items n r.0 (drop 1 (still_to_come d l.entries s)) gathered room added);
     }
 

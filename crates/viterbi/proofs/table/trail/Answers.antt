@@ -21,8 +21,8 @@ loop-at-preserved c =
     let o = c.in-Some.ordinal in
     let low : o < length table = at_some (length table) o c.loop-at.at c.in-Some.is c.loop-at.invariant.inside in
     record {
-      inside = before_inside table o low c.requires.falls;
-      goes_on = λ rest trail. subst (λ p. IsTrail table c.args.last (p ++ rest)) (sym c.in_ok-push.ensures.items) (subst (λ p. IsTrail table c.args.last p) (sym (append_assoc c.loop-at.path.items (o ∷ []) rest)) (c.loop-at.invariant.goes_on (o ∷ rest) (c.in-Some.is, low, trail)));
+      inside = subst (λ (r : Reached). IfSome r.before (λ x. x < length table)) (sym c.at-at.ensures) (before_inside table o low c.requires.falls);
+      goes_on = λ rest trail. subst (λ p. IsTrail table c.args.last (p ++ rest)) (sym c.in_ok-push.ensures.items) (subst (λ p. IsTrail table c.args.last p) (sym (append_assoc c.loop-at.path.items (o ∷ []) rest)) (c.loop-at.invariant.goes_on (o ∷ rest) (c.in-Some.is, low, subst (λ (r : Reached). IsTrail table r.before rest) c.at-at.ensures trail)));
     }
 
 pub returns : goal.returns

@@ -4,7 +4,7 @@ use Rattle.mz_base.specs.declared.lattice.Entry.{Entry}
 use Rattle.nbest.specs.Searches.{AreThere, first_found, is_open, still_to_come}
 use Rattle.nbest.proofs.FirstLemmas.{AreThere-tail}
 use Rattle.nbest.proofs.StepLemmas.{taken}
-use Rattle.nbest.proofs.search.NBest.next.Goals as goal
+use Rattle.nbest.proofs.search.NBest.next_in.Goals as goal
 
 pub is_open-requires : goal.is_open-requires
 is_open-requires g c = λ k e low.

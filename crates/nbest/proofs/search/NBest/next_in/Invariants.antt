@@ -1,7 +1,7 @@
 use Rattle.std.proofs.Common.{◌≡◌}
 use Rattle.nbest.specs.Searches.{IsSearch, still_to_come}
 use Rattle.nbest.specs.Weights.{weight}
-use Rattle.nbest.proofs.search.NBest.next.Given as goal
+use Rattle.nbest.proofs.search.NBest.next_in.Given as goal
 
 abbrev pub invariant-loop-self : goal.invariant-loop-self
 invariant-loop-self g l = record {
