@@ -177,7 +177,7 @@ take_while-filter p (x ∷ xs) parted =
 -- ---- The heads of all texts
 
 module _ (texts : List (List ℕ)) where
-  places-of-heads : (places : List ℕ) → places_in (map (head_of texts) places) ≡ places
+  pub places-of-heads : (places : List ℕ) → places_in (map (head_of texts) places) ≡ places
   places-of-heads [] = refl
   places-of-heads (place ∷ places) = ap (λ ps. place ∷ ps) (places-of-heads places)
 

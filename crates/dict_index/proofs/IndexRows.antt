@@ -25,7 +25,7 @@ range-rises n i j d ordered inside =
     let high = get_or-range_with_len 0 n j d below in
     omega (arith, low, high, ordered)
 
-neither-less : (o : Ordering) → (not (is_lt (ordering_reverse o)) && not (is_lt o)) ≡ is_eq o
+pub neither-less : (o : Ordering) → (not (is_lt (ordering_reverse o)) && not (is_lt o)) ≡ is_eq o
 neither-less Less = refl
 neither-less Equal = refl
 neither-less Greater = refl
@@ -72,9 +72,18 @@ module _ (texts : List (List ℕ)) (places : List ℕ) (index : IsIndex texts pl
   unfolding places_of
   rows-of_text text = text-rows text _ refl
 
+  -- the places of the texts that begin with a prefix are the rows with it
+  pub prefix-rows : (prefix : List ℕ) → AreSame (standing_at texts (length prefix) prefix places) (rows_with_prefix texts prefix)
+  unfolding places_of
+  prefix-rows prefix n =
+      AreSame-filter (λ (place : ℕ). starts_with nat_eq (text_at texts place) prefix) places all all-places n
+
+  pub prefix-rises : (prefix : List ℕ) → IsNonDecreasing (rows_with_prefix texts prefix)
+  unfolding places_of
+  prefix-rises prefix =
+      IsNonDecreasingBy-filter (λ n. n) (λ (place : ℕ). starts_with nat_eq (text_at texts place) prefix) all (range-rises (length texts))
+
   -- the rows with a prefix, once they are sorted
   pub rows-of_prefix : (prefix rows : List ℕ) → IsNonDecreasing rows → AreSame rows (standing_at texts (length prefix) prefix places) → rows ≡ rows_with_prefix texts prefix
-  unfolding places_of
   rows-of_prefix prefix rows up same =
-      let begins = λ (place : ℕ). starts_with nat_eq (text_at texts place) prefix in
-      rising-is rows (filter begins all) up (IsNonDecreasingBy-filter (λ n. n) begins all (range-rises (length texts))) (λ n. same n ∙ AreSame-filter begins places all all-places n)
+      rising-is rows (rows_with_prefix texts prefix) up (prefix-rises prefix) (λ n. same n ∙ prefix-rows prefix n)

@@ -1,5 +1,7 @@
 pub mod Codes
+pub mod Costs
 pub mod Filters
+pub mod FirstRows
 pub mod IndexRows
 pub mod KeyParts
 pub mod PackedTexts

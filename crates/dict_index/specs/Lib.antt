@@ -1,3 +1,5 @@
+pub mod Cheapest
 pub mod Heads
 pub mod Order
 pub mod Packed
+pub mod Spans

@@ -2,13 +2,15 @@ ghost use Rattle.std.specs.Prelude.{◌≡◌, ◌++◌, ◌<◌, ◌≤◌, IfO
 ghost use Rattle.mz_base.specs.Data.{rows_with_prefix, hits_at};
 ghost use Rattle.mz_base.specs.declared.data.Hit.{Hit};
 ghost use Rattle.mz_base.specs.declared.data.TheConstants.{MOST_LOOKED_UP};
+ghost use Rattle.dict_index.specs.Cheapest.{AreBeside, cheapest, row_costs};
 ghost use Rattle.dict_index.specs.Heads.{AreInOrder, places_in};
 
+use crate::cheapest::cheapest_of;
 use crate::guesses::{Guesses, longer};
 use crate::heads::{Head, places_in};
-use crate::order::{Stretch, block, exact, narrowed};
+use crate::order::{Stretch, block, exact, in_span, narrowed};
 use crate::packed::Packed;
-use mz_base::{Hit, MOST_LOOKED_UP, NoMemory};
+use mz_base::{Hit, MOST_LOOKED_UP, NoMemory, PricedRow};
 use std::alloc::Global;
 
 /// How many words one place of a key may begin with before a list of them grows.
@@ -56,9 +58,26 @@ pub fn rows_from(
     ensures { IfOk result (λ rows. rows.items ≡ rows_with_prefix texts.now prefix.now) }
 {
     let found = block(texts, heads, prefix.len(), prefix);
-    let mut rows = places_in(alloc, found)?;
+    let mut rows = places_in(alloc, in_span(heads, found))?;
     rows.sort()?;
     Ok(rows)
+}
+
+/// The first so many of the rows whose text begins with the prefix, by cost and then by row.
+pub fn cheapest_from(
+    alloc: Global,
+    texts: &Packed,
+    heads: &[Head],
+    costs: &[i32],
+    prefix: &[char],
+    most: usize,
+) -> Result<Vec<PricedRow>, NoMemory>
+    requires index { AreInOrder texts.now heads.now }
+    requires costs { AreBeside (length texts.now) heads.now costs.now }
+    ensures { IfOk result (λ found. found.items ≡ cheapest (row_costs (length texts.now) heads.now costs.now) most (rows_with_prefix texts.now prefix.now)) }
+{
+    let span = block(texts, heads, prefix.len(), prefix);
+    cheapest_of(alloc, in_span(heads, span), in_span(costs, span), most)
 }
 
 /// The characters of the key from one place to another.

@@ -7,6 +7,7 @@ ghost use Rattle.mz_base.specs.declared.data.TheConstants.{MOST_WORDS};
 ghost use Rattle.dict_index.specs.Heads.{AreHeads, code_of, is_below, places_in};
 ghost use Rattle.dict_index.specs.declared.heads.Head.{Head};
 ghost use Rattle.dict_index.specs.Order.{AllBegin, IsIndex, comes_before, standing_at};
+ghost use Rattle.dict_index.specs.Spans.{in_span};
 
 use crate::guesses::Guess;
 use crate::heads::{Head, code_of};
@@ -25,19 +26,32 @@ pub fn places_in_order(alloc: Global, texts: &Packed) -> Result<Vec<u32>, NoMemo
     Ok(places)
 }
 
-/// Of these heads, those whose texts are this one when cut after so many characters: they stand together.
-pub fn block<'a>(texts: &Packed, heads: &'a [Head], width: usize, text: &[char]) -> &'a [Head]
+/// Some that stand together, from a place on.
+#[derive(Clone, Copy)]
+pub struct Span {
+    pub start: usize,
+    pub count: usize,
+}
+
+/// Where the heads stand whose texts are this one when cut after so many characters.
+pub fn block(texts: &Packed, heads: &[Head], width: usize, text: &[char]) -> Span
     requires { IsSortedBy (comes_before texts.now) (places_in heads.now) }
-    ensures { places_in result.now ≡ standing_at texts.now width text.now (places_in heads.now) }
+    ensures inside { result.start + result.count ≤ length heads.now }
+    ensures found { places_in (in_span result heads.now) ≡ standing_at texts.now width text.now (places_in heads.now) }
 {
-    let before = heads.partition_point(|head| front_cmp(
-        texts.get(head.place),
-        width,
-        text,
-    ).is_lt());
-    let (_, rest) = heads.split_at(before);
+    let start = heads.partition_point(|head| front_cmp(texts.get(head.place), width, text).is_lt());
+    let (_, rest) = heads.split_at(start);
     let count = rest.partition_point(|head| front_cmp(texts.get(head.place), width, text).is_le());
-    let (found, _) = rest.split_at(count);
+    Span { start, count }
+}
+
+/// The items of a span.
+pub fn in_span<T>(items: &[T], span: Span) -> &[T]
+    requires { span.start + span.count ≤ length items.now }
+    ensures { result.now ≡ in_span span items.now }
+{
+    let (_, rest) = items.split_at(span.start);
+    let (found, _) = rest.split_at(span.count);
     found
 }
 

@@ -2,3 +2,4 @@ pub mod AnswerLemmas
 pub mod SoundData
 pub mod WordSteps
 pub mod FileCounts
+pub mod IndexCosts

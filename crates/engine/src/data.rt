@@ -1,12 +1,13 @@
-ghost use Rattle.std.specs.Prelude.{◌≡◌, length, map};
-ghost use Rattle.mz_base.specs.Data.{AreDataSound, readings};
+ghost use Rattle.std.specs.Prelude.{◌≡◌, length};
+ghost use Rattle.mz_base.specs.Data.{AreDataSound};
+ghost use Rattle.dict_index.specs.Cheapest.{indexed_rows};
 ghost use Rattle.std.proofs.Props.{props};
 ghost use Rattle.engine.specs.Props.{AreDistinct-prop};
 ghost use Rattle.engine.specs.Tables.{data_in};
 
 use crate::tables::Tables;
 use dict_index::{SortedIndex, WordIndex};
-use mz_base::{Class, DataSet, Hit, NoMemory, Romaji, RuleView, Text, WordView};
+use mz_base::{Class, DataSet, Hit, NoMemory, PricedRow, Romaji, RuleView, Text, WordView};
 use std::alloc::Global;
 
 /// A data set.
@@ -15,14 +16,14 @@ pub struct Engine {
     tables: Tables,
     index: SortedIndex,
     ghost sound: { AreDataSound (data_in tables) } by { Prim.hlevel (props, AreDistinct-prop) },
-    ghost indexed: { index ≡ readings (data_in tables) },
+    ghost indexed: { index ≡ indexed_rows (data_in tables).words },
 }
 
 impl Engine {
     /// The data set of these tables, with the index of their words.
     pub(crate) fn of(tables: Tables, index: SortedIndex) -> Engine
         requires sound { AreDataSound (data_in tables) }
-        requires indexed { index ≡ readings (data_in tables) }
+        requires indexed { index ≡ indexed_rows (data_in tables).words }
         ensures { ⟦<Engine as DataSet>⟧.lists result ≡ data_in tables }
     {
         Engine { tables, index }
@@ -109,6 +110,15 @@ impl DataSet for Engine {
 
     fn words_with_prefix(&self, alloc: Global, prefix: &[char]) -> Result<Vec<u32>, NoMemory> {
         self.index.words_with_prefix(alloc, prefix)
+    }
+
+    fn cheapest_with_prefix(
+        &self,
+        alloc: Global,
+        prefix: &[char],
+        most: usize,
+    ) -> Result<Vec<PricedRow>, NoMemory> {
+        self.index.cheapest_with_prefix(alloc, prefix, most)
     }
 
     fn symbols(&self, reading: &[char]) -> &[Text] {

@@ -11,7 +11,7 @@ use Rattle.dict_index.proofs.look_up.rows_from.Goals as goal
 pub returns : goal.returns
 returns c =
     let rows = c.sort.new.self.items in
-    let found = c.in_ok-rows.ensures ∙ c.block-found.ensures in
+    let found = c.in_ok-rows.ensures ∙ (ap places_in c.in_span.ensures ∙ c.block-found.ensures.found) in
     let up = IsNonDecreasingBy-from_sort (λ n. n) rows c.in_ok-sort.ensures.sorted in
     let same = AreSame-stable (λ n m. is_lt (nat_cmp n m)) (λ n. ap is_lt (tied_itself nat_cmp_total n)) c.in_ok-rows.rows.items rows c.in_ok-sort.ensures.stable in
     rows-of_prefix c.args.texts.now (places_in c.args.heads.now) c.requires.index c.args.prefix.now rows up (λ n. same n ∙ ap (λ zs. filter (nat_eq n) zs) found)
