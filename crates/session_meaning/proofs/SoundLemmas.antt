@@ -187,54 +187,32 @@ sound-candidate c v number is =
 -- ---- Of each command
 
 sound-pressed : (stage : Stage) (taken : Option Pinned) (act : Option Action) → IsStage stage → IfSome taken IsPinnedSound → SoundBy (pressed stage taken act)
-sound-pressed P taken None is data_are = tt
 sound-pressed P taken (Some (action.Insert letter)) is data_are = sound-begun taken letter data_are
-sound-pressed P taken (Some action.Convert) is data_are = tt
-sound-pressed P taken (Some action.Commit) is data_are = tt
-sound-pressed P taken (Some action.Cancel) is data_are = tt
-sound-pressed P taken (Some action.Backspace) is data_are = tt
-sound-pressed P taken (Some action.Delete) is data_are = tt
-sound-pressed P taken (Some action.Left) is data_are = tt
-sound-pressed P taken (Some action.Right) is data_are = tt
-sound-pressed P taken (Some action.Home) is data_are = tt
-sound-pressed P taken (Some action.End) is data_are = tt
-sound-pressed P taken (Some action.Next) is data_are = tt
-sound-pressed P taken (Some action.Previous) is data_are = tt
-sound-pressed P taken (Some action.Widen) is data_are = tt
-sound-pressed P taken (Some action.Narrow) is data_are = tt
-sound-pressed P taken (Some (action.CommitThenInsert letter)) is data_are = tt
-sound-pressed (C c) taken None is data_are = tt
-sound-pressed (C c) taken (Some (action.Insert letter)) is data_are = either (nat_le MOST_SHOWN (length (preedit c))) Filled (Went (with_text c (inserted c.text letter))) (λ full. tt) is.pinned
+sound-pressed P taken _ is data_are = tt
+sound-pressed (C c) taken (Some (action.Insert letter)) is data_are =
+    either (nat_le MOST_SHOWN (length (preedit c))) Filled (Went (with_text c (inserted c.text letter))) (λ full. tt) is.pinned
 sound-pressed (C c) taken (Some action.Convert) is data_are = sound-converted c is
-sound-pressed (C c) taken (Some action.Commit) is data_are = tt
-sound-pressed (C c) taken (Some action.Cancel) is data_are = tt
 sound-pressed (C c) taken (Some action.Backspace) is data_are = is.pinned
 sound-pressed (C c) taken (Some action.Delete) is data_are = is.pinned
 sound-pressed (C c) taken (Some action.Left) is data_are = is.pinned
 sound-pressed (C c) taken (Some action.Right) is data_are = is.pinned
 sound-pressed (C c) taken (Some action.Home) is data_are = is.pinned
 sound-pressed (C c) taken (Some action.End) is data_are = is.pinned
-sound-pressed (C c) taken (Some action.Next) is data_are = tt
-sound-pressed (C c) taken (Some action.Previous) is data_are = tt
-sound-pressed (C c) taken (Some action.Widen) is data_are = tt
-sound-pressed (C c) taken (Some action.Narrow) is data_are = tt
-sound-pressed (C c) taken (Some (action.CommitThenInsert letter)) is data_are = tt
-sound-pressed (V c v) taken None is data_are = tt
-sound-pressed (V c v) taken (Some (action.Insert letter)) is data_are = tt
-sound-pressed (V c v) taken (Some action.Convert) is data_are = tt
-sound-pressed (V c v) taken (Some action.Commit) is data_are = tt
+sound-pressed (C c) taken _ is data_are = tt
 sound-pressed (V c v) taken (Some action.Cancel) is data_are = is.0.pinned
-sound-pressed (V c v) taken (Some action.Backspace) is data_are = tt
-sound-pressed (V c v) taken (Some action.Delete) is data_are = tt
 sound-pressed (V c v) taken (Some action.Left) is data_are = (is.0, is.1, IsChosen-focus v (v.focus - 1) is.2)
 sound-pressed (V c v) taken (Some action.Right) is data_are = (is.0, is.1, IsChosen-focus v (v.focus + 1) is.2)
 sound-pressed (V c v) taken (Some action.Home) is data_are = (is.0, is.1, IsChosen-focus v 0 is.2)
-sound-pressed (V c v) taken (Some action.End) is data_are = (is.0, is.1, IsChosen-focus v (length v.conversion.segments - 1) is.2)
-sound-pressed (V c v) taken (Some action.Next) is data_are = (is.0, is.1, IsChosen-turned v (chosen_in_focus v + 1) is.2)
-sound-pressed (V c v) taken (Some action.Previous) is data_are = (is.0, is.1, IsChosen-turned v (chosen_in_focus v + (count_in_focus v - 1)) is.2)
+sound-pressed (V c v) taken (Some action.End) is data_are =
+    (is.0, is.1, IsChosen-focus v (length v.conversion.segments - 1) is.2)
+sound-pressed (V c v) taken (Some action.Next) is data_are =
+    (is.0, is.1, IsChosen-turned v (chosen_in_focus v + 1) is.2)
+sound-pressed (V c v) taken (Some action.Previous) is data_are =
+    (is.0, is.1, IsChosen-turned v (chosen_in_focus v + (count_in_focus v - 1)) is.2)
 sound-pressed (V c v) taken (Some action.Widen) is data_are = sound-widened c v (pos 1) is
 sound-pressed (V c v) taken (Some action.Narrow) is data_are = sound-widened c v (neg_ℤ (pos 1)) is
 sound-pressed (V c v) taken (Some (action.CommitThenInsert letter)) is data_are = sound-begun taken letter data_are
+sound-pressed (V c v) taken _ is data_are = tt
 
 sound-suggestion : (found : Option Pair) → SoundBy (took_suggestion found)
 sound-suggestion None = tt
