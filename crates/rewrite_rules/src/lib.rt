@@ -5,10 +5,14 @@
 mod candidates;
 mod history;
 mod kana;
+mod laws;
 mod numbers;
 mod rule;
 mod spelling;
 mod wide;
 
 pub use history::newest_for;
-pub use rule::{apply, rewrite};
+pub use laws::{
+    again_is_once, chosen_is_moved, distinct_values_stay, numbers_are_worth_themselves, rules_add,
+};
+pub use rule::{apply, rewrite, rewrite_by};

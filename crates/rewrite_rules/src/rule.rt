@@ -1,5 +1,5 @@
 ghost use Rattle.std.specs.Prelude.{◌≡◌, IfOk, OnOk};
-ghost use Rattle.conversion_meaning.specs.Rules.{rewritten, values_by, with_values};
+ghost use Rattle.conversion_meaning.specs.Rules.{rewritten, rewritten_by, values_by, with_values};
 ghost use Rattle.rewrite_rules.specs.Newest.{asked};
 
 use crate::candidates::{add_values, copies};
@@ -39,6 +39,22 @@ pub fn rewrite<D: DataSet>(
     }
     let mut made = list;
     add_by(alloc, rule, ask, &mut made)?;
+    Ok(made)
+}
+
+/// What the rules of these numbers make of it, one after the other.
+pub fn rewrite_by<D: DataSet>(
+    alloc: Global,
+    numbers: &[u8],
+    ask: &Ask<'_, D>,
+    list: Vec<Candidate>,
+) -> Result<Vec<Candidate>, NoMemory>
+    ensures { IfOk result (λ made. made.items ≡ rewritten_by numbers.now (asked (D.lists ask.now.set.now) ask.now.history.now ask.now.key.now) list.items) }
+{
+    let mut made = list;
+    for rule in numbers {
+        made = rewrite(alloc, *rule, ask, made)?;
+    }
     Ok(made)
 }
 
