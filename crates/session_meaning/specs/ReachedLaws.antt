@@ -1,16 +1,19 @@
 -- The laws of sessions that commands reach.
-use Rattle.std.specs.Prelude.{◌≡◌, ◌⊎◌, false, List, Option, Some, None, IfSome}
+use Rattle.std.specs.Prelude.{◌≡◌, ◌⊎◌, ℤ, false, length, List, Option, Some, None, IfSome}
 use Rattle.std.specs.List.{All}
 use Rattle.mz_base.specs.declared.lattice.Pair.{Pair}
 use Rattle.mz_base.specs.declared.report.Mode.TheVariants as mode
+use Rattle.conversion_meaning.specs.Lattices.{AreBounds}
+use Rattle.conversion_meaning.specs.Segments.{resized}
 use Rattle.keys.specs.Bindings.{action_in}
 use Rattle.keys.specs.declared.action.Action.TheVariants as action
 use Rattle.keys.specs.declared.command.Command.{Command}
 use Rattle.keys.specs.declared.command.Command.TheVariants as command
 use Rattle.keys.specs.declared.key.Key.{Key}
 use Rattle.session_meaning.specs.Fields.{IsField, IsLineField, IsStepField}
-use Rattle.session_meaning.specs.Reached.{AreTakenSound, IsPinnedSound, IsSound, reached}
-use Rattle.session_meaning.specs.Stages.{Choice, Composition, Pinned, Session, Stage, C, P, V}
+use Rattle.session_meaning.specs.Outcomes.{parts_of}
+use Rattle.session_meaning.specs.Reached.{AreTakenSound, IsPinnedSound, IsSound, IsStage, reached}
+use Rattle.session_meaning.specs.Stages.{Choice, Composition, Pinned, Session, Stage, C, P, V, reading}
 use Rattle.session_meaning.specs.Steps.{gone, learned, step}
 
 -- ---- What holds of each
@@ -50,6 +53,11 @@ IsResize k = (action_in mode.V k ≡ Some action.Widen) ⊎ (action_in mode.V k 
 abbrev pub ResizeKeepsFocus : Type 0
 ResizeKeepsFocus =
     (s : Session) (c : Composition) (v : Choice) (k : Key) (taken : Option Pinned) → s.stage ≡ V c v → IsResize k → (w : Choice) × ((step s (command.Key k) taken).session.stage ≡ V c w) × (w.focus ≡ v.focus)
+
+-- the bounds of a resize are bounds of the reading
+abbrev pub ResizedAreBounds : Type 0
+ResizedAreBounds =
+    (c : Composition) (v : Choice) (by : ℤ) → IsStage (V c v) → IfSome (resized (parts_of v) v.focus by (length (reading c))) (AreBounds (reading c))
 
 -- ---- Texts
 

@@ -1,4 +1,4 @@
-ghost use Rattle.session_meaning.specs.ReachedLaws.{CompositionStays, EscapeShowsComposition, LearnedAreFields, LinesAreFields, ReachedIsSound, ResizeKeepsFocus, SoundStays};
+ghost use Rattle.session_meaning.specs.ReachedLaws.{CompositionStays, EscapeShowsComposition, LearnedAreFields, LinesAreFields, ReachedIsSound, ResizeKeepsFocus, ResizedAreBounds, SoundStays};
 
 /// A command keeps what holds of a session.
 pub fn soundness_stays()
@@ -23,6 +23,11 @@ pub fn escape_shows_the_composition()
 /// A resize keeps the focus.
 pub fn resizes_keep_the_focus()
     ensures { ResizeKeepsFocus }
+{}
+
+/// The bounds of a resize are bounds of the reading.
+pub fn resized_bounds_are_bounds()
+    ensures { ResizedAreBounds }
 {}
 
 /// No text of a line has a tab or a line feed, where no text of the data and no key that was typed has one.
