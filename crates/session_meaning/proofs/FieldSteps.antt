@@ -13,7 +13,7 @@ use Rattle.composer.specs.Composing.{Composing, backspaced, base_of, deleted, in
 use Rattle.composer.specs.declared.composer.TheConstants.{MOST_SHOWN}
 use Rattle.conversion_meaning.specs.Segments.{resized}
 use Rattle.conversion_meaning.proofs.CutLemmas.{from_all}
-use Rattle.conversion_meaning.proofs.Lists.{Among, Among-append_cases, from_map}
+use Rattle.conversion_meaning.proofs.Lists.{All-from_among, Among, Among-append_cases, Among-map, from_map}
 use Rattle.keys.specs.Bindings.{action_in}
 use Rattle.keys.specs.declared.action.Action.{Action}
 use Rattle.keys.specs.declared.action.Action.TheVariants as action
@@ -21,14 +21,14 @@ use Rattle.keys.specs.declared.command.Command.{Command}
 use Rattle.keys.specs.declared.command.Command.TheVariants as command
 use Rattle.keys.specs.declared.key.Key.{Key}
 use Rattle.keys.specs.declared.key.Key.TheVariants as key
-use Rattle.session_meaning.specs.Fields.{ArePinnedFields, IsCommandField, IsFieldCharacter, IsKeyField, IsLineField, IsRuleField, IsStepField}
+use Rattle.session_meaning.specs.Fields.{ArePinnedFields, IsCommandField, IsField, IsFieldCharacter, IsKeyField, IsLineField, IsRuleField, IsStepField}
 use Rattle.session_meaning.specs.Lines.{choosing_rest, line_of, line_with, page, rest_of}
 use Rattle.session_meaning.specs.Outcomes.{Outcome, Committed, Converted, Filled, Passed, Went, at_number, begun, can_convert, conversion_of, count_in_focus, empty, first_choice, parts_of, reconverted, session_rules, suggestion_at, took_suggestion, with_chosen, with_text}
 use Rattle.session_meaning.specs.Reached.{reached}
-use Rattle.session_meaning.specs.ReachedLaws.{LinesAreFields}
-use Rattle.session_meaning.specs.Stages.{Choice, Composition, Pinned, Session, Stage, C, P, V, chosen_in_focus, chosen_text, chosen_values, cursor, mode_of, no_segment, opening, picks_from, preedit, reading, rules_of, segment_in_focus, shown, suggested, value_at}
+use Rattle.session_meaning.specs.ReachedLaws.{LearnedAreFields, LinesAreFields}
+use Rattle.session_meaning.specs.Stages.{Choice, Composition, Pinned, Session, Stage, C, P, V, chosen_in_focus, chosen_pairs, chosen_text, chosen_values, cursor, mode_of, no_segment, opening, picks, picks_from, preedit, reading, rules_of, segment_in_focus, shown, suggested, value_at}
 use Rattle.session_meaning.specs.declared.page.TheConstants.{PAGE_PLACES}
-use Rattle.session_meaning.specs.Steps.{Stepped, after, compared, differs, met, pressed, selected, settled, step}
+use Rattle.session_meaning.specs.Steps.{Stepped, after, compared, differs, learned, learned_by_action, learned_by_selection, met, of_suggestion, pressed, selected, settled, step}
 use Rattle.session_meaning.proofs.FieldAnswers.{Plain-suggested, PlainSegments, PlainSegments-answer, PlainValues}
 use Rattle.session_meaning.proofs.FieldTexts.{AreFields-from_plain, IsField-from_plain, Plain, Plain-decimal, Plain-flat_map, Plain-none, Plain-preedit, Plain-reading, PlainComposing, PlainComposing-backspaced, PlainComposing-deleted, PlainComposing-inserted, PlainComposing-moved_end, PlainComposing-moved_home, PlainComposing-moved_left, PlainComposing-moved_right, PlainRules, PlainTexts, from_drop, from_take, read-holds}
 
@@ -216,48 +216,23 @@ TypesField (Some (action.CommitThenInsert letter)) = IsFieldCharacter letter
 TypesField _ = ⊤
 
 plain-composed : (c : Composition) (act : Option Action) → PlainComposition c → TypesField act → PlainBy (pressed (C c) None act)
-plain-composed c None is typed = tt
 plain-composed c (Some (action.Insert letter)) is typed = either (nat_le MOST_SHOWN (length (preedit c))) Filled (Went (with_text c (inserted c.text letter))) tt (plain-moved c (inserted c.text letter) is (PlainComposing-inserted c.text letter is.text typed))
 plain-composed c (Some action.Convert) is typed = either (can_convert c) (Converted c (first_choice (conversion_of c []))) Passed (is, PlainSegments-conversion c [] is) tt
 plain-composed c (Some action.Commit) is typed = (Plain-read c is, tt)
-plain-composed c (Some action.Cancel) is typed = tt
 plain-composed c (Some action.Backspace) is typed = plain-moved c (backspaced (rules_of c) c.text) is (PlainComposing-backspaced (rules_of c) (rules-plain c is) c.text is.text)
 plain-composed c (Some action.Delete) is typed = plain-moved c (deleted (rules_of c) c.text) is (PlainComposing-deleted (rules_of c) (rules-plain c is) c.text is.text)
 plain-composed c (Some action.Left) is typed = plain-moved c (moved_left (rules_of c) c.text) is (PlainComposing-moved_left (rules_of c) (rules-plain c is) c.text is.text)
 plain-composed c (Some action.Right) is typed = plain-moved c (moved_right (rules_of c) c.text) is (PlainComposing-moved_right (rules_of c) (rules-plain c is) c.text is.text)
 plain-composed c (Some action.Home) is typed = plain-moved c (moved_home (rules_of c) c.text) is (PlainComposing-moved_home (rules_of c) (rules-plain c is) c.text is.text)
 plain-composed c (Some action.End) is typed = plain-moved c (moved_end (rules_of c) c.text) is (PlainComposing-moved_end (rules_of c) (rules-plain c is) c.text is.text)
-plain-composed c (Some action.Next) is typed = tt
-plain-composed c (Some action.Previous) is typed = tt
-plain-composed c (Some action.Widen) is typed = tt
-plain-composed c (Some action.Narrow) is typed = tt
-plain-composed c (Some (action.CommitThenInsert letter)) is typed = tt
+plain-composed c _ is typed = tt
 
 plain-pressed : (stage : Stage) (taken : Option Pinned) (act : Option Action) → PlainStage stage → IfSome taken ArePinnedFields → TypesField act → PlainBy (pressed stage taken act)
-plain-pressed P taken None is data_are typed = tt
 plain-pressed P taken (Some (action.Insert letter)) is data_are typed = plain-begun taken letter data_are typed
-plain-pressed P taken (Some action.Convert) is data_are typed = tt
-plain-pressed P taken (Some action.Commit) is data_are typed = tt
-plain-pressed P taken (Some action.Cancel) is data_are typed = tt
-plain-pressed P taken (Some action.Backspace) is data_are typed = tt
-plain-pressed P taken (Some action.Delete) is data_are typed = tt
-plain-pressed P taken (Some action.Left) is data_are typed = tt
-plain-pressed P taken (Some action.Right) is data_are typed = tt
-plain-pressed P taken (Some action.Home) is data_are typed = tt
-plain-pressed P taken (Some action.End) is data_are typed = tt
-plain-pressed P taken (Some action.Next) is data_are typed = tt
-plain-pressed P taken (Some action.Previous) is data_are typed = tt
-plain-pressed P taken (Some action.Widen) is data_are typed = tt
-plain-pressed P taken (Some action.Narrow) is data_are typed = tt
-plain-pressed P taken (Some (action.CommitThenInsert letter)) is data_are typed = tt
+plain-pressed P taken _ is data_are typed = tt
 plain-pressed (C c) taken act is data_are typed = plain-composed c act is typed
-plain-pressed (V c v) taken None is data_are typed = tt
-plain-pressed (V c v) taken (Some (action.Insert letter)) is data_are typed = tt
-plain-pressed (V c v) taken (Some action.Convert) is data_are typed = tt
 plain-pressed (V c v) taken (Some action.Commit) is data_are typed = (Plain-chosen_text v is.1, tt)
 plain-pressed (V c v) taken (Some action.Cancel) is data_are typed = is.0
-plain-pressed (V c v) taken (Some action.Backspace) is data_are typed = tt
-plain-pressed (V c v) taken (Some action.Delete) is data_are typed = tt
 plain-pressed (V c v) taken (Some action.Left) is data_are typed = is
 plain-pressed (V c v) taken (Some action.Right) is data_are typed = is
 plain-pressed (V c v) taken (Some action.Home) is data_are typed = is
@@ -267,6 +242,7 @@ plain-pressed (V c v) taken (Some action.Previous) is data_are typed = is
 plain-pressed (V c v) taken (Some action.Widen) is data_are typed = plain-reconverted c v (resized (parts_of v) v.focus (pos 1) (length (reading c))) is.0
 plain-pressed (V c v) taken (Some action.Narrow) is data_are typed = plain-reconverted c v (resized (parts_of v) v.focus (neg_ℤ (pos 1)) (length (reading c))) is.0
 plain-pressed (V c v) taken (Some (action.CommitThenInsert letter)) is data_are typed = (Plain-chosen_text v is.1, plain-begun taken letter data_are typed)
+plain-pressed (V c v) taken _ is data_are typed = tt
 
 -- ---- Of each command
 
@@ -309,47 +285,11 @@ plain-compared s wanted found is plain = by_test (is_text wanted found)
 
 types-key : (stage : Stage) (k : Key) → IsKeyField k → TypesField (action_in (mode_of stage) k)
 types-key P (key.Char c) is = is
-types-key P key.Space is = tt
-types-key P key.Enter is = tt
-types-key P key.Escape is = tt
-types-key P key.Backspace is = tt
-types-key P key.Delete is = tt
-types-key P key.Left is = tt
-types-key P key.Right is = tt
-types-key P key.Home is = tt
-types-key P key.End is = tt
-types-key P key.Up is = tt
-types-key P key.Down is = tt
-types-key P key.ShiftLeft is = tt
-types-key P key.ShiftRight is = tt
+types-key P _ is = tt
 types-key (C c) (key.Char letter) is = is
-types-key (C c) key.Space is = tt
-types-key (C c) key.Enter is = tt
-types-key (C c) key.Escape is = tt
-types-key (C c) key.Backspace is = tt
-types-key (C c) key.Delete is = tt
-types-key (C c) key.Left is = tt
-types-key (C c) key.Right is = tt
-types-key (C c) key.Home is = tt
-types-key (C c) key.End is = tt
-types-key (C c) key.Up is = tt
-types-key (C c) key.Down is = tt
-types-key (C c) key.ShiftLeft is = tt
-types-key (C c) key.ShiftRight is = tt
+types-key (C c) _ is = tt
 types-key (V c v) (key.Char letter) is = is
-types-key (V c v) key.Space is = tt
-types-key (V c v) key.Enter is = tt
-types-key (V c v) key.Escape is = tt
-types-key (V c v) key.Backspace is = tt
-types-key (V c v) key.Delete is = tt
-types-key (V c v) key.Left is = tt
-types-key (V c v) key.Right is = tt
-types-key (V c v) key.Home is = tt
-types-key (V c v) key.End is = tt
-types-key (V c v) key.Up is = tt
-types-key (V c v) key.Down is = tt
-types-key (V c v) key.ShiftLeft is = tt
-types-key (V c v) key.ShiftRight is = tt
+types-key (V c v) _ is = tt
 
 plain-step : (s : Session) (c : Command) (taken : Option Pinned) → PlainSession s → IsCommandField c → IfSome taken ArePinnedFields → PlainStepped (step s c taken)
 unfolding step
@@ -374,3 +314,43 @@ plain-run (first ∷ commands) s is are =
 pub lines-are_fields : LinesAreFields
 lines-are_fields commands command are is =
     (plain-step (reached commands) command.0 command.1 (plain-run commands opening (record { stage = tt; last = Plain-none }) are) is.typed is.taken).line
+
+-- ---- What is learned
+
+abbrev PlainPairs : List Pair → Type 0
+PlainPairs pairs = (pair : Pair) → Among pair pairs → Plain pair.value
+
+plain-chosen_pairs : (c : Composition) (v : Choice) → PlainSegments v.conversion.segments → PlainPairs (chosen_pairs c v)
+plain-chosen_pairs c v are pair h =
+    let r = from_map _ pair (picks v) h in
+    subst (λ (x : Pair). Plain x.value) r.2 (PlainTexts-chosen v are (value_at r.0.0 r.0.1) (Among-map (λ (pick : Segment × ℕ). value_at pick.0 pick.1) r.0 (picks v) r.1))
+
+plain-of_suggestion : (found : Option Pair) (c : Composition) → PlainComposition c → IfSome found (λ pair. Among pair (suggested c)) → PlainPairs (of_suggestion found)
+plain-of_suggestion None c is h pair k = absurd k
+plain-of_suggestion (Some found) c is h pair (inl same) =
+    subst (λ (x : Pair). Plain x.value) same (Plain-suggested c.pinned is.data_are (base_of (rules_of c) c.text) found h)
+plain-of_suggestion (Some found) c is h pair (inr k) = absurd k
+
+plain-learned_by_action : (stage : Stage) (act : Option Action) → PlainStage stage → PlainPairs (learned_by_action stage act)
+plain-learned_by_action P _ is pair h = absurd h
+plain-learned_by_action (C c) _ is pair h = absurd h
+plain-learned_by_action (V c v) (Some action.Commit) is pair h = plain-chosen_pairs c v is.1 pair h
+plain-learned_by_action (V c v) (Some (action.CommitThenInsert letter)) is pair h =
+    plain-chosen_pairs c v is.1 pair h
+plain-learned_by_action (V c v) _ is pair h = absurd h
+
+plain-learned_by_selection : (stage : Stage) (number : ℕ) → PlainStage stage → PlainPairs (learned_by_selection stage number)
+plain-learned_by_selection P number is pair h = absurd h
+plain-learned_by_selection (C c) number is pair h =
+    plain-of_suggestion (suggestion_at c number) c is (numbered-among (suggested c) number) pair h
+plain-learned_by_selection (V c v) number is pair h = absurd h
+
+plain-learned : (s : Session) (c : Command) → PlainSession s → PlainPairs (learned s c)
+unfolding learned
+plain-learned s (command.Key k) is = plain-learned_by_action s.stage (action_in (mode_of s.stage) k) is.stage
+plain-learned s (command.Select number) is = plain-learned_by_selection s.stage number is.stage
+plain-learned s _ is = λ pair h. absurd h
+
+pub learned-are_fields : LearnedAreFields
+learned-are_fields commands command are =
+    All-from_among (λ (pair : Pair). IsField pair.value) (learned (reached commands) command) (λ pair h. IsField-from_plain pair.value (plain-learned (reached commands) command (plain-run commands opening (record { stage = tt; last = Plain-none }) are) pair h))

@@ -1,4 +1,5 @@
 pub mod ChoiceLemmas
+pub mod CompositionLemmas
 pub mod DataLemmas
 pub mod FieldAnswers
 pub mod FieldSteps

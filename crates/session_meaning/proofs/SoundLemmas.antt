@@ -23,7 +23,7 @@ use Rattle.keys.specs.declared.command.Command.{Command}
 use Rattle.keys.specs.declared.command.Command.TheVariants as command
 use Rattle.session_meaning.specs.Outcomes.{Outcome, Committed, Converted, Filled, Passed, Went, begun, can_convert, conversion_of, converted, count_in_focus, first_choice, parts_of, rechosen, reconverted, session_rules, suggestion_at, took_candidate, took_suggestion, widened, with_chosen, with_text}
 use Rattle.session_meaning.specs.Reached.{AreTakenSound, IsComposed, IsConverted, IsPinnedSound, IsSound, IsStage}
-use Rattle.session_meaning.specs.ReachedLaws.{ReachedIsSound, SoundStays}
+use Rattle.session_meaning.specs.ReachedLaws.{ReachedIsSound, ResizedAreBounds, SoundStays}
 use Rattle.session_meaning.specs.Stages.{Choice, Composition, Pinned, Session, Stage, C, P, V, chosen_in_focus, mode_of, opening, preedit, reading, shown}
 use Rattle.session_meaning.specs.Steps.{after, compared, differs, met, pressed, selected, settled, step}
 use Rattle.session_meaning.proofs.ChoiceLemmas.{AreBounds-resized, HaveValues, IsChosen-first, IsChosen-focus, IsChosen-rechosen, IsChosen-turned, IsChosen-with, few-bounds}
@@ -142,36 +142,47 @@ ends-past_focus parts focus end inside =
     let front = length-take focus parts in
     omega (arith, joined, mapped, front)
 
+module _ (c : Composition) (v : Choice) (is : IsStage (V c v)) where
+  parts-touch : AreTouching 0 (length (reading c)) (parts_of v)
+  parts-touch =
+      let r = is.1.within in
+      subst (λ (conversion : Conversion). AreTouching 0 (length (reading c)) (map part_of conversion.segments)) (sym r.2) (conversion-touches c is.0.pinned is.1.key r.0 r.1)
+
+  focus-inside : v.focus < length (parts_of v)
+  focus-inside =
+      let focus = is.2.focus in
+      let mapped = length-map v.conversion.segments part_of in
+      omega (arith, focus, mapped)
+
+  AreBounds-new : (by : ℤ) → can_widen (parts_of v) v.focus by (length (reading c)) ≡ true → AreBounds (reading c) (new_ends v by)
+  AreBounds-new by can = AreBounds-resized (reading c) (parts_of v) v.focus by parts-touch focus-inside can
+
+  focus-below : (by : ℤ) → can_widen (parts_of v) v.focus by (length (reading c)) ≡ true → v.focus < length (conversion_of c (new_ends v by)).segments
+  focus-below by can =
+      let ends = ends-past_focus (parts_of v) v.focus (unsigned_abs (wider_end (parts_of v) v.focus by)) focus-inside in
+      let keeps = conversion-keeps c is.0.pinned is.1.key (new_ends v by) (AreBounds-new by can) in
+      omega (arith, ends, keeps)
+
+  IsStage-new : (by : ℤ) → can_widen (parts_of v) v.focus by (length (reading c)) ≡ true → IsStage (V c (rechosen v (conversion_of c (new_ends v by))))
+  IsStage-new by can =
+      let are = AreBounds-new by can in
+      (is.0, IsConverted-within c is.0.pinned is.1.key (new_ends v by) are, IsChosen-rechosen v (conversion_of c (new_ends v by)) (focus-below by can) (conversion-valued c is.0.pinned is.1.key (new_ends v by) are))
+
 sound-widened : (c : Composition) (v : Choice) (by : ℤ) → IsStage (V c v) → SoundBy (widened c v by)
 unfolding resized
 sound-widened c v by is = by_test (can_widen (parts_of v) v.focus by (length (reading c))) refl
   where
-    touching : AreTouching 0 (length (reading c)) (parts_of v)
-    touching =
-        let r = is.1.within in
-        subst (λ (conversion : Conversion). AreTouching 0 (length (reading c)) (map part_of conversion.segments)) (sym r.2) (conversion-touches c is.0.pinned is.1.key r.0 r.1)
-
-    inside : v.focus < length (parts_of v)
-    inside =
-        let focus = is.2.focus in
-        let mapped = length-map v.conversion.segments part_of in
-        omega (arith, focus, mapped)
-
-    are : can_widen (parts_of v) v.focus by (length (reading c)) ≡ true → AreBounds (reading c) (new_ends v by)
-    are can = AreBounds-resized (reading c) (parts_of v) v.focus by touching inside can
-
-    below : can_widen (parts_of v) v.focus by (length (reading c)) ≡ true → v.focus < length (conversion_of c (new_ends v by)).segments
-    below can =
-        let ends = ends-past_focus (parts_of v) v.focus (unsigned_abs (wider_end (parts_of v) v.focus by)) inside in
-        let keeps = conversion-keeps c is.0.pinned is.1.key (new_ends v by) (are can) in
-        omega (arith, ends, keeps)
-
-    made : can_widen (parts_of v) v.focus by (length (reading c)) ≡ true → IsStage (V c (rechosen v (conversion_of c (new_ends v by))))
-    made can =
-        (is.0, IsConverted-within c is.0.pinned is.1.key (new_ends v by) (are can), IsChosen-rechosen v (conversion_of c (new_ends v by)) (below can) (conversion-valued c is.0.pinned is.1.key (new_ends v by) (are can)))
-
     by_test : (b : Bool) → can_widen (parts_of v) v.focus by (length (reading c)) ≡ b → SoundBy (reconverted c v (if b then Some (new_ends v by) else None))
-    by_test true can = made can
+    by_test true can = IsStage-new c v is by can
+    by_test false can = tt
+
+-- the bounds of a resize are bounds of the reading
+pub resized-bounds : ResizedAreBounds
+unfolding resized
+resized-bounds c v by is = by_test (can_widen (parts_of v) v.focus by (length (reading c))) refl
+  where
+    by_test : (b : Bool) → can_widen (parts_of v) v.focus by (length (reading c)) ≡ b → IfSome (if b then Some (new_ends v by) else None) (AreBounds (reading c))
+    by_test true can = AreBounds-new c v is by can
     by_test false can = tt
 
 sound-candidate : (c : Composition) (v : Choice) (number : ℕ) → IsStage (V c v) → SoundBy (took_candidate c v number)
@@ -187,54 +198,32 @@ sound-candidate c v number is =
 -- ---- Of each command
 
 sound-pressed : (stage : Stage) (taken : Option Pinned) (act : Option Action) → IsStage stage → IfSome taken IsPinnedSound → SoundBy (pressed stage taken act)
-sound-pressed P taken None is data_are = tt
 sound-pressed P taken (Some (action.Insert letter)) is data_are = sound-begun taken letter data_are
-sound-pressed P taken (Some action.Convert) is data_are = tt
-sound-pressed P taken (Some action.Commit) is data_are = tt
-sound-pressed P taken (Some action.Cancel) is data_are = tt
-sound-pressed P taken (Some action.Backspace) is data_are = tt
-sound-pressed P taken (Some action.Delete) is data_are = tt
-sound-pressed P taken (Some action.Left) is data_are = tt
-sound-pressed P taken (Some action.Right) is data_are = tt
-sound-pressed P taken (Some action.Home) is data_are = tt
-sound-pressed P taken (Some action.End) is data_are = tt
-sound-pressed P taken (Some action.Next) is data_are = tt
-sound-pressed P taken (Some action.Previous) is data_are = tt
-sound-pressed P taken (Some action.Widen) is data_are = tt
-sound-pressed P taken (Some action.Narrow) is data_are = tt
-sound-pressed P taken (Some (action.CommitThenInsert letter)) is data_are = tt
-sound-pressed (C c) taken None is data_are = tt
-sound-pressed (C c) taken (Some (action.Insert letter)) is data_are = either (nat_le MOST_SHOWN (length (preedit c))) Filled (Went (with_text c (inserted c.text letter))) (λ full. tt) is.pinned
+sound-pressed P taken _ is data_are = tt
+sound-pressed (C c) taken (Some (action.Insert letter)) is data_are =
+    either (nat_le MOST_SHOWN (length (preedit c))) Filled (Went (with_text c (inserted c.text letter))) (λ full. tt) is.pinned
 sound-pressed (C c) taken (Some action.Convert) is data_are = sound-converted c is
-sound-pressed (C c) taken (Some action.Commit) is data_are = tt
-sound-pressed (C c) taken (Some action.Cancel) is data_are = tt
 sound-pressed (C c) taken (Some action.Backspace) is data_are = is.pinned
 sound-pressed (C c) taken (Some action.Delete) is data_are = is.pinned
 sound-pressed (C c) taken (Some action.Left) is data_are = is.pinned
 sound-pressed (C c) taken (Some action.Right) is data_are = is.pinned
 sound-pressed (C c) taken (Some action.Home) is data_are = is.pinned
 sound-pressed (C c) taken (Some action.End) is data_are = is.pinned
-sound-pressed (C c) taken (Some action.Next) is data_are = tt
-sound-pressed (C c) taken (Some action.Previous) is data_are = tt
-sound-pressed (C c) taken (Some action.Widen) is data_are = tt
-sound-pressed (C c) taken (Some action.Narrow) is data_are = tt
-sound-pressed (C c) taken (Some (action.CommitThenInsert letter)) is data_are = tt
-sound-pressed (V c v) taken None is data_are = tt
-sound-pressed (V c v) taken (Some (action.Insert letter)) is data_are = tt
-sound-pressed (V c v) taken (Some action.Convert) is data_are = tt
-sound-pressed (V c v) taken (Some action.Commit) is data_are = tt
+sound-pressed (C c) taken _ is data_are = tt
 sound-pressed (V c v) taken (Some action.Cancel) is data_are = is.0.pinned
-sound-pressed (V c v) taken (Some action.Backspace) is data_are = tt
-sound-pressed (V c v) taken (Some action.Delete) is data_are = tt
 sound-pressed (V c v) taken (Some action.Left) is data_are = (is.0, is.1, IsChosen-focus v (v.focus - 1) is.2)
 sound-pressed (V c v) taken (Some action.Right) is data_are = (is.0, is.1, IsChosen-focus v (v.focus + 1) is.2)
 sound-pressed (V c v) taken (Some action.Home) is data_are = (is.0, is.1, IsChosen-focus v 0 is.2)
-sound-pressed (V c v) taken (Some action.End) is data_are = (is.0, is.1, IsChosen-focus v (length v.conversion.segments - 1) is.2)
-sound-pressed (V c v) taken (Some action.Next) is data_are = (is.0, is.1, IsChosen-turned v (chosen_in_focus v + 1) is.2)
-sound-pressed (V c v) taken (Some action.Previous) is data_are = (is.0, is.1, IsChosen-turned v (chosen_in_focus v + (count_in_focus v - 1)) is.2)
+sound-pressed (V c v) taken (Some action.End) is data_are =
+    (is.0, is.1, IsChosen-focus v (length v.conversion.segments - 1) is.2)
+sound-pressed (V c v) taken (Some action.Next) is data_are =
+    (is.0, is.1, IsChosen-turned v (chosen_in_focus v + 1) is.2)
+sound-pressed (V c v) taken (Some action.Previous) is data_are =
+    (is.0, is.1, IsChosen-turned v (chosen_in_focus v + (count_in_focus v - 1)) is.2)
 sound-pressed (V c v) taken (Some action.Widen) is data_are = sound-widened c v (pos 1) is
 sound-pressed (V c v) taken (Some action.Narrow) is data_are = sound-widened c v (neg_ℤ (pos 1)) is
 sound-pressed (V c v) taken (Some (action.CommitThenInsert letter)) is data_are = sound-begun taken letter data_are
+sound-pressed (V c v) taken _ is data_are = tt
 
 sound-suggestion : (found : Option Pair) → SoundBy (took_suggestion found)
 sound-suggestion None = tt

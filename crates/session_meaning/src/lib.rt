@@ -20,4 +20,8 @@ pub use laws::{
 };
 pub use need::Need;
 pub use page::{PAGE_PLACES, page_limit_is};
-pub use reached::{lines_are_fields, reached_sessions_are_sound, soundness_stays};
+pub use reached::{
+    conversions_keep_the_composition, escape_shows_the_composition, learned_values_are_fields,
+    lines_are_fields, reached_sessions_are_sound, resized_bounds_are_bounds,
+    resizes_keep_the_focus, soundness_stays,
+};

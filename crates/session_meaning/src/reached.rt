@@ -1,4 +1,4 @@
-ghost use Rattle.session_meaning.specs.ReachedLaws.{LinesAreFields, ReachedIsSound, SoundStays};
+ghost use Rattle.session_meaning.specs.ReachedLaws.{CompositionStays, EscapeShowsComposition, LearnedAreFields, LinesAreFields, ReachedIsSound, ResizeKeepsFocus, ResizedAreBounds, SoundStays};
 
 /// A command keeps what holds of a session.
 pub fn soundness_stays()
@@ -10,7 +10,32 @@ pub fn reached_sessions_are_sound()
     ensures { ReachedIsSound }
 {}
 
+/// What is converted is the composition that was there before the command.
+pub fn conversions_keep_the_composition()
+    ensures { CompositionStays }
+{}
+
+/// Escape and Backspace lead from a conversion back to its composition, and their line shows it as it was.
+pub fn escape_shows_the_composition()
+    ensures { EscapeShowsComposition }
+{}
+
+/// A resize keeps the focus.
+pub fn resizes_keep_the_focus()
+    ensures { ResizeKeepsFocus }
+{}
+
+/// The bounds of a resize are bounds of the reading.
+pub fn resized_bounds_are_bounds()
+    ensures { ResizedAreBounds }
+{}
+
 /// No text of a line has a tab or a line feed, where no text of the data and no key that was typed has one.
 pub fn lines_are_fields()
     ensures { LinesAreFields }
+{}
+
+/// Nor has a value that is learned.
+pub fn learned_values_are_fields()
+    ensures { LearnedAreFields }
 {}

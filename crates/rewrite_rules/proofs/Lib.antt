@@ -1,0 +1,6 @@
+mod AddLemmas
+mod AgainLemmas
+mod MoveLemmas
+mod SeenLemmas
+mod TenLemmas
+mod WorthLemmas

@@ -1,0 +1,4 @@
+pub mod Laws
+pub mod Newest
+pub mod Seen
+pub mod Worth
