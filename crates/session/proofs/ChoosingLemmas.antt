@@ -1,6 +1,6 @@
 -- Of a composition that is converted: the first choice, and the choice in a conversion within other bounds.
 use Rattle.std.proofs.Common.{◌≡◌, refl, sym, subst, ap, ◌∙◌, ℕ, ◌+◌, ◌<◌, Bool, true, false, List, [], ◌∷◌, ◌++◌, map, take, Option, Some, None, if◌then◌else◌, length, arith}
-use Rattle.std.specs.Prelude.{ℤ, unsigned_abs}
+use Rattle.std.specs.Prelude.{ℤ, IfSome, unsigned_abs}
 use Rattle.std.proofs.lemmas.List.{length-map}
 use Rattle.mz_base.specs.Data.{DataLists}
 use Rattle.mz_base.specs.declared.conversion.Conversion.{Conversion}
@@ -15,7 +15,7 @@ use Rattle.session_meaning.specs.Reached.{IsPinnedSound}
 use Rattle.session_meaning.specs.Stages.{Choice, Composition, reading}
 use Rattle.session_meaning.proofs.ChoiceLemmas.{AreBounds-resized, IsChosen-first, IsChosen-rechosen}
 use Rattle.session_meaning.proofs.SoundLemmas.{AreBounds-none, IsConverted-within, conversion-keeps, conversion-some, conversion-touches, conversion-valued, ends-past_focus}
-use Rattle.session.specs.Kept.{IsKept}
+use Rattle.session.specs.Kept.{Chosen, IsKept}
 
 -- a conversion by these data, as no rule sees the history
 pub conversion-is : (lists : DataLists) (rows : List UserRow) (c : Composition) (key bounds : List ℕ) → lists ≡ c.pinned.lists → rows ≡ c.pinned.rows → key ≡ reading c → answer lists rows [] [] key bounds ≡ conversion_of c bounds
@@ -86,3 +86,8 @@ module _ (c : Composition) (key : List ℕ) (v : Choice) (is : IsKept c key v) (
           let are = AreBounds-resized (reading c) (parts_of v) v.focus by touching inside can in
           let long = ends-past_focus (parts_of v) v.focus (unsigned_abs (wider_end (parts_of v) v.focus by)) inside in
           (subst (AreBounds (reading c)) same are, subst (λ xs. v.focus < length xs) same (omega (arith, long)))
+
+-- what makes a composition wider gives bounds, and goes up to the focus
+pub wider-bounds : (x : Chosen) (key : List ℕ) (by : ℤ) (made : Option (List ℕ)) → IsKept x.composition key x.choice → made ≡ resized (parts_of x.choice) x.choice.focus by (length (reading x.composition)) → IfSome made (λ bounds. AreBounds (reading x.composition) bounds × (x.choice.focus < length bounds))
+wider-bounds x key by None is same = tt
+wider-bounds x key by (Some bounds) is same = resized-bounds x.composition key x.choice is by bounds (sym same)

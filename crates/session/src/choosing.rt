@@ -1,8 +1,11 @@
-ghost use Rattle.std.specs.Prelude.{◌≡◌, ◌+◌, ◌-◌, ◌%◌, ◌<◌, [], IfOk, length, map};
+ghost use Rattle.std.specs.Prelude.{◌≡◌, ◌+◌, ◌-◌, ◌%◌, ◌<◌, ◌≤◌, [], IfOk, IfSome, length, map};
 ghost use Rattle.std.specs.Arc.{arc_value};
 ghost use Rattle.mz_base.specs.declared.conversion.Segment.{Segment};
+ghost use Rattle.std.specs.Option.{option_map};
+ghost use Rattle.mz_base.specs.declared.lattice.TheConstants.{MOST_KEY};
 ghost use Rattle.conversion_meaning.specs.Lattices.{AreBounds, IsKey};
-ghost use Rattle.session_meaning.specs.Outcomes.{count_in_focus, conversion_of, first_choice, kept_places, next_choice, previous_choice, rechosen, values_before, with_chosen, with_focus};
+ghost use Rattle.conversion_meaning.specs.Segments.{resized};
+ghost use Rattle.session_meaning.specs.Outcomes.{count_in_focus, conversion_of, first_choice, kept_places, next_choice, parts_of, previous_choice, rechosen, values_before, with_chosen, with_focus};
 ghost use Rattle.session_meaning.specs.Reached.{IsChosen};
 ghost use Rattle.session_meaning.specs.Stages.{chosen_in_focus, chosen_pairs, chosen_text, picks, reading, segment_in_focus};
 ghost use Rattle.session.specs.Kept.{Chosen, IsKept, pick_of, rewidened};
@@ -167,7 +170,8 @@ impl<D: DataSet + Drop, U: UserWords + Drop> Choosing<D, U> {
 
     /// The key that is converted.
     pub fn key(&self) -> &[char]
-        ensures { result.now ≡ reading self.now.composition }
+        ensures key { result.now ≡ reading self.now.composition }
+        ensures few { length result.now ≤ MOST_KEY }
     {
         self.made.key.as_slice()
     }
@@ -215,12 +219,21 @@ impl<D: DataSet + Drop, U: UserWords + Drop> Choosing<D, U> {
     pub fn widened(&self, alloc: Global, by: i32) -> Result<Option<Choosing<D, U>>, NoMemory>
         ensures { IfOk result (λ wider. wider ≡ rewidened self.now by) }
     {
-        let key = self.made.key.as_slice();
-        let parts = parts_of(alloc, self.segments())?;
-        match segments::resize(alloc, parts.as_slice(), self.focus, by, key.len() as u16)? {
+        match self.wider_bounds(alloc, by)? {
             Some(bounds) => Ok(Some(self.within(alloc, bounds.as_slice())?)),
             None => Ok(None),
         }
+    }
+
+    /// The bounds with which the segment in focus is wider by so many characters. None where it can't be.
+    fn wider_bounds(&self, alloc: Global, by: i32) -> Result<Option<Vec<u16>>, NoMemory>
+        ensures made { IfOk result (λ bounds. option_map (λ made. made.items) bounds ≡ resized (parts_of self.now.choice) self.now.choice.focus by (length (reading self.now.composition))) }
+        ensures are { IfOk result (λ bounds. IfSome bounds (λ made. AreBounds (reading self.now.composition) made.items)) }
+        ensures few { IfOk result (λ bounds. IfSome bounds (λ made. self.now.choice.focus < length made.items)) }
+    {
+        let key_length = self.key().len() as u16;
+        let parts = parts_of(alloc, self.segments())?;
+        segments::resize(alloc, parts.as_slice(), self.focus(), by, key_length)
     }
 
     /// The same focus in the conversion within other bounds.
@@ -229,10 +242,9 @@ impl<D: DataSet + Drop, U: UserWords + Drop> Choosing<D, U> {
         requires few { self.now.choice.focus < length bounds.now }
         ensures { IfOk result (λ c. c ≡ record { composition = self.now.composition; choice = rechosen self.now.choice (conversion_of self.now.composition bounds.now) }) }
     {
-        let key = self.made.key.as_slice();
-        let conversion = self.composition.conversion(alloc, key, bounds)?;
+        let conversion = self.composition.conversion(alloc, self.key(), bounds)?;
         let chosen = self.kept_places(alloc, conversion.segments.as_slice())?;
-        let key = Vec::from_slice(alloc, key)?;
+        let key = Vec::from_slice(alloc, self.key())?;
         Choosing::of(
             alloc,
             &self.composition,

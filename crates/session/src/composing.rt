@@ -113,11 +113,7 @@ fn converted<D: DataSet + Drop, U: UserWords + Drop>(
     if !is_key(reading.as_slice()) {
         return Ok(Outcome::Passed);
     }
-    Ok(Outcome::Converted(Choosing::first(
-        alloc,
-        composition,
-        reading,
-    )?))
+    Ok(Outcome::Converted(Choosing::first(alloc, composition, reading)?))
 }
 
 fn is_key(reading: &[char]) -> bool
@@ -148,10 +144,7 @@ pub fn took_suggestion<D: DataSet + Drop, U: UserWords + Drop>(
     ensures { IfOk result (λ outcome. outcome_of outcome ≡ took_suggestion (suggestion_at composition.now number)) }
 {
     match suggestion_at(composition, number) {
-        Some(pair) => Ok(Outcome::Committed(
-            pair.value.copy(alloc)?,
-            Stage::Precomposition,
-        )),
+        Some(pair) => Ok(Outcome::Committed(pair.value.copy(alloc)?, Stage::Precomposition)),
         None => Ok(Outcome::Passed),
     }
 }

@@ -33,10 +33,7 @@ pub fn in_conversion<D: DataSet + Drop, U: UserWords + Drop>(
         )?)),
         Action::Widen => widened(alloc, choosing, 1),
         Action::Narrow => widened(alloc, choosing, -1),
-        Action::Commit => Ok(Outcome::Committed(
-            choosing.text(alloc)?,
-            Stage::Precomposition,
-        )),
+        Action::Commit => Ok(Outcome::Committed(choosing.text(alloc)?, Stage::Precomposition)),
         Action::Cancel => cancelled(choosing),
         Action::CommitThenInsert(letter) => Ok(Outcome::Committed(
             choosing.text(alloc)?,

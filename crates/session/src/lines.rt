@@ -1,6 +1,5 @@
 ghost use Rattle.std.specs.Prelude.{◌≡◌, ◌++◌, [], ◌∷◌, ◌*◌, ◌/◌, drop, take, IfOk, OnOk, map};
 ghost use Rattle.std.specs.Fmt.{decimal};
-
 ghost use Rattle.mz_base.specs.declared.lattice.Candidate.{Candidate};
 ghost use Rattle.mz_base.specs.declared.lattice.Pair.{Pair};
 ghost use Rattle.session_meaning.specs.Lines.{choosing_rest, composing_rest, line_of, page, rest_of};

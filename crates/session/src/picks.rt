@@ -86,7 +86,10 @@ fn pair_of(alloc: Global, key: &[char], pick: &Pick<'_>) -> Result<Pair, NoMemor
 {
     let segment = pick.segment;
     Ok(Pair {
-        key: Text::from_chars(alloc, part(key, segment.begin as usize, segment.end as usize))?,
+        key: Text::from_chars(
+            alloc,
+            part(key, segment.begin as usize, segment.end as usize),
+        )?,
         value: Text::from_chars(alloc, value_at(segment, pick.place))?,
     })
 }

@@ -79,11 +79,7 @@ impl<D: DataSet + Drop, U: UserWords + Drop> Session<D, U> {
     /// Carries out a command, with the data that it takes, where its need says so, and tells its line. A wait passes: whoever
     /// serves the session waits. After a refusal the session is as before.
     #[tactic(auto, unfolding(session_meaning::specs::Steps::step))]
-    pub fn step(
-        &mut self,
-        command: &Command,
-        taken: Option<Pinned<D, U>>,
-    ) -> Result<Line, NoMemory>
+    pub fn step(&mut self, command: &Command, taken: Option<Pinned<D, U>>) -> Result<Line, NoMemory>
         ensures ok { IfOk result (λ line. step self.old command.now taken ≡ record { session = self.new; line = line }) }
         ensures err { OnErr result (self.new ≡ self.old) }
     {
@@ -103,7 +99,10 @@ impl<D: DataSet + Drop, U: UserWords + Drop> Session<D, U> {
         ensures { option_map lent result ≡ converted_of self.now }
     {
         match &self.stage {
-            Stage::Conversion(choosing) if self.fresh => Some((choosing.key(), choosing.conversion())),
+            Stage::Conversion(choosing) if self.fresh => Some((
+                choosing.key(),
+                choosing.conversion(),
+            )),
             _ => None,
         }
     }
@@ -178,11 +177,7 @@ impl<D: DataSet + Drop, U: UserWords + Drop> Session<D, U> {
     }
 
     /// What an action comes to, by the mode.
-    fn acted(
-        &self,
-        action: Action,
-        taken: Option<Pinned<D, U>>,
-    ) -> Result<Outcome<D, U>, NoMemory>
+    fn acted(&self, action: Action, taken: Option<Pinned<D, U>>) -> Result<Outcome<D, U>, NoMemory>
         ensures { IfOk result (λ outcome. outcome_of outcome ≡ acted self.now.stage taken action) }
     {
         match &self.stage {
