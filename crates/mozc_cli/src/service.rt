@@ -6,9 +6,7 @@ ghost use Rattle.mozc_cli.specs.Services.{IsKept, progress_of};
 
 use crate::numbers::{FIRST_CLIENT, FIRST_JOB};
 use keys::Command;
-use mz_base::{
-    DataSet, Event, Line, NoMemory, NoUserWords, Outcome, Own, Pair, Seq, UserEntry,
-};
+use mz_base::{DataSet, Event, Line, NoMemory, NoUserWords, Outcome, Own, Pair, Seq, UserEntry};
 use session::{Need, Pinned, Session};
 use session_meaning::MOST_PAIRS;
 use std::alloc::Global;
@@ -201,11 +199,7 @@ impl<D: DataSet + Drop> Service<D> {
 }
 
 /// Learns pairs, from left to right.
-fn learn_all(
-    alloc: Global,
-    history: &mut Vec<Pair>,
-    pairs: &[Pair],
-) -> Result<(), NoMemory>
+fn learn_all(alloc: Global, history: &mut Vec<Pair>, pairs: &[Pair]) -> Result<(), NoMemory>
     ensures { OnOk result (history.new.items ≡ learn history.old.items pairs.now) }
 {
     for pair in pairs {
