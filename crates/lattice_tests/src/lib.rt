@@ -1,5 +1,5 @@
-//! The tests of the crates of one lattice: its entries, the best path, all paths in order, certificates, segments; of
-//! suggestions; and of what each data set finds by its own look-ups. They share the small data set of `example_set`.
+//! The tests of the crates of one lattice: its entries, the best path, all paths in order, certificates, segments; of the
+//! rules and of suggestions; and of what each data set finds by its own look-ups. They share the small data set of `example_set`.
 //! Nothing else stands here.
 #![tactic(auto)]
 
@@ -17,5 +17,7 @@ mod data;
 mod entries;
 #[cfg(test)]
 mod lattices;
+#[cfg(test)]
+mod rules;
 #[cfg(test)]
 mod suggestions;

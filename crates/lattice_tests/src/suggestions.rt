@@ -45,7 +45,7 @@ fn suggested(alloc: Global, line: &str) -> Result<String, NoMemory> {
     Ok(text)
 }
 
-fn history_of(alloc: Global, text: &str) -> Result<Vec<Pair>, NoMemory> {
+pub fn history_of(alloc: Global, text: &str) -> Result<Vec<Pair>, NoMemory> {
     let mut pairs = Vec::new(alloc);
     for part in text.split(';') {
         let key: Vec<char> = part.split(' ').next().unwrap_or("").chars().collect(alloc)?;

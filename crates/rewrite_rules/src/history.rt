@@ -23,13 +23,13 @@ pub fn newest_for(history: &[Pair], key: &[char], list: &[Candidate]) -> Option<
 pub fn newest<'a>(history: &'a [Pair], key: &[char], list: &[Candidate]) -> Option<&'a Pair>
     ensures { option_copied result ≡ newest history.now key.now list.now }
 {
-    // The key first: a scan of the list costs more.
     history.iter().find(|pair| is_chosen(pair, key, list))
 }
 
 fn is_chosen(pair: &Pair, key: &[char], list: &[Candidate]) -> bool
     ensures { result ≡ (is_text key.now pair.now.key && list_any (is_value pair.now.value) list.now) }
 {
+    // The key first: a scan of the list costs more.
     pair.key.as_chars() == key && has_value(list, pair.value.as_chars())
 }
 

@@ -4,5 +4,7 @@ pub mod DataLemmas
 pub mod FieldAnswers
 pub mod FieldSteps
 pub mod FieldTexts
+pub mod KeyFields
+pub mod LearnedKeys
 pub mod SoundLemmas
 pub mod StepLemmas

@@ -143,7 +143,7 @@ ends-past_focus parts focus end inside =
     omega (arith, joined, mapped, front)
 
 module _ (c : Composition) (v : Choice) (is : IsStage (V c v)) where
-  parts-touch : AreTouching 0 (length (reading c)) (parts_of v)
+  pub parts-touch : AreTouching 0 (length (reading c)) (parts_of v)
   parts-touch =
       let r = is.1.within in
       subst (λ (conversion : Conversion). AreTouching 0 (length (reading c)) (map part_of conversion.segments)) (sym r.2) (conversion-touches c is.0.pinned is.1.key r.0 r.1)

@@ -1,20 +1,22 @@
 -- The laws of sessions that commands reach.
-use Rattle.std.specs.Prelude.{◌≡◌, ◌⊎◌, ℤ, false, length, List, Option, Some, None, IfSome}
-use Rattle.std.specs.List.{All}
+use Rattle.std.specs.Prelude.{◌≡◌, ◌⊎◌, ℕ, ℤ, true, false, length, List, Option, Some, None, IfSome}
+use Rattle.std.specs.List.{All, flat_map}
 use Rattle.mz_base.specs.declared.lattice.Pair.{Pair}
 use Rattle.mz_base.specs.declared.report.Mode.TheVariants as mode
 use Rattle.conversion_meaning.specs.Lattices.{AreBounds}
 use Rattle.conversion_meaning.specs.Segments.{resized}
 use Rattle.keys.specs.Bindings.{action_in}
+use Rattle.keys.specs.Names.{key_of}
 use Rattle.keys.specs.declared.action.Action.TheVariants as action
 use Rattle.keys.specs.declared.command.Command.{Command}
 use Rattle.keys.specs.declared.command.Command.TheVariants as command
 use Rattle.keys.specs.declared.key.Key.{Key}
-use Rattle.session_meaning.specs.Fields.{IsField, IsLineField, IsStepField}
+use Rattle.session_meaning.specs.Fields.{IsField, IsKeyField, IsLineField, IsStepField}
+use Rattle.session_meaning.specs.Laws.{is_learned}
 use Rattle.session_meaning.specs.Outcomes.{parts_of}
 use Rattle.session_meaning.specs.Reached.{AreTakenSound, IsPinnedSound, IsSound, IsStage, reached}
 use Rattle.session_meaning.specs.Stages.{Choice, Composition, Pinned, Session, Stage, C, P, V, reading}
-use Rattle.session_meaning.specs.Steps.{gone, learned, step}
+use Rattle.session_meaning.specs.Steps.{gone, learned, needs, step}
 
 -- ---- What holds of each
 
@@ -59,6 +61,11 @@ abbrev pub ResizedAreBounds : Type 0
 ResizedAreBounds =
     (c : Composition) (v : Choice) (by : ℤ) → IsStage (V c v) → IfSome (resized (parts_of v) v.focus by (length (reading c))) (AreBounds (reading c))
 
+-- what is learned of a conversion, its keys joined, is what was read
+abbrev pub LearnedKeysAreReading : Type 0
+LearnedKeysAreReading =
+    (s : Session) (command : Command) (c : Composition) (v : Choice) → IsSound s → s.stage ≡ V c v → is_learned (needs s command) ≡ true → flat_map (λ (pair : Pair). pair.key) (learned s command) ≡ reading c
+
 -- ---- Texts
 
 -- no text of a line has a tab or a line feed, where no text of the data and no key that was typed has one
@@ -70,3 +77,7 @@ LinesAreFields =
 abbrev pub LearnedAreFields : Type 0
 LearnedAreFields =
     (commands : List (Command × Option Pinned)) (command : Command) → All IsStepField commands → All (λ (pair : Pair). IsField pair.value) (learned (reached commands) command)
+
+-- and the name of a key gives no other character
+abbrev pub KeysAreFields : Type 0
+KeysAreFields = (name : List ℕ) (k : Key) → key_of name ≡ Some k → IsKeyField k

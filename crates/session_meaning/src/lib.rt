@@ -21,7 +21,7 @@ pub use laws::{
 pub use need::Need;
 pub use page::{PAGE_PLACES, page_limit_is};
 pub use reached::{
-    conversions_keep_the_composition, escape_shows_the_composition, learned_values_are_fields,
-    lines_are_fields, reached_sessions_are_sound, resized_bounds_are_bounds,
-    resizes_keep_the_focus, soundness_stays,
+    conversions_keep_the_composition, escape_shows_the_composition, keys_are_fields,
+    learned_keys_are_the_reading, learned_values_are_fields, lines_are_fields,
+    reached_sessions_are_sound, resized_bounds_are_bounds, resizes_keep_the_focus, soundness_stays,
 };

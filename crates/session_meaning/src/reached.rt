@@ -1,4 +1,4 @@
-ghost use Rattle.session_meaning.specs.ReachedLaws.{CompositionStays, EscapeShowsComposition, LearnedAreFields, LinesAreFields, ReachedIsSound, ResizeKeepsFocus, ResizedAreBounds, SoundStays};
+ghost use Rattle.session_meaning.specs.ReachedLaws.{CompositionStays, EscapeShowsComposition, KeysAreFields, LearnedAreFields, LearnedKeysAreReading, LinesAreFields, ReachedIsSound, ResizeKeepsFocus, ResizedAreBounds, SoundStays};
 
 /// A command keeps what holds of a session.
 pub fn soundness_stays()
@@ -30,6 +30,11 @@ pub fn resized_bounds_are_bounds()
     ensures { ResizedAreBounds }
 {}
 
+/// What is learned of a conversion has, its keys joined, the whole reading: a pair for each segment, with its part.
+pub fn learned_keys_are_the_reading()
+    ensures { LearnedKeysAreReading }
+{}
+
 /// No text of a line has a tab or a line feed, where no text of the data and no key that was typed has one.
 pub fn lines_are_fields()
     ensures { LinesAreFields }
@@ -38,4 +43,9 @@ pub fn lines_are_fields()
 /// Nor has a value that is learned.
 pub fn learned_values_are_fields()
     ensures { LearnedAreFields }
+{}
+
+/// And the name of a key gives no such character.
+pub fn keys_are_fields()
+    ensures { KeysAreFields }
 {}
