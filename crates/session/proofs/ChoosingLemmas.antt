@@ -1,6 +1,7 @@
 -- Of a composition that is converted: the first choice, and the choice in a conversion within other bounds.
-use Rattle.std.proofs.Common.{◌≡◌, refl, sym, subst, ap, ◌∙◌, ℕ, ◌+◌, ◌<◌, Bool, true, false, List, [], ◌∷◌, ◌++◌, map, take, Option, Some, None, if◌then◌else◌, length, arith}
+use Rattle.std.proofs.Common.{◌≡◌, refl, sym, subst, ap, ◌∙◌, ℕ, ◌+◌, ◌<◌, Bool, true, false, List, [], ◌∷◌, ◌++◌, map, take, Option, Some, None, Vec, Global, if◌then◌else◌, length, arith}
 use Rattle.std.specs.Prelude.{ℤ, IfSome, unsigned_abs}
+use Rattle.std.specs.Option.{option_map}
 use Rattle.std.proofs.lemmas.List.{length-map}
 use Rattle.mz_base.specs.Data.{DataLists}
 use Rattle.mz_base.specs.declared.conversion.Conversion.{Conversion}
@@ -87,7 +88,24 @@ module _ (c : Composition) (key : List ℕ) (v : Choice) (is : IsKept c key v) (
           let long = ends-past_focus (parts_of v) v.focus (unsigned_abs (wider_end (parts_of v) v.focus by)) inside in
           (subst (AreBounds (reading c)) same are, subst (λ xs. v.focus < length xs) same (omega (arith, long)))
 
--- what makes a composition wider gives bounds, and goes up to the focus
-pub wider-bounds : (x : Chosen) (key : List ℕ) (by : ℤ) (made : Option (List ℕ)) → IsKept x.composition key x.choice → made ≡ resized (parts_of x.choice) x.choice.focus by (length (reading x.composition)) → IfSome made (λ bounds. AreBounds (reading x.composition) bounds × (x.choice.focus < length bounds))
-wider-bounds x key by None is same = tt
-wider-bounds x key by (Some bounds) is same = resized-bounds x.composition key x.choice is by bounds (sym same)
+-- bounds with which a composition is wider are bounds, and go up to the focus
+module _ (x : Chosen) (key : List ℕ) (by : ℤ) (is : IsKept x.composition key x.choice) where
+  abbrev pub Widens : Option (Vec ℕ Global) → Type 0
+  Widens bounds =
+      option_map (λ (made : Vec ℕ Global). made.items) bounds ≡ resized (parts_of x.choice) x.choice.focus by (length (reading x.composition))
+
+  pub wider-are : (bounds : Option (Vec ℕ Global)) → Widens bounds → IfSome bounds (λ (made : Vec ℕ Global). AreBounds (reading x.composition) made.items)
+  wider-are None same = tt
+  wider-are (Some made) same = (resized-bounds x.composition key x.choice is by made.items (sym same)).0
+
+  pub wider-few : (bounds : Option (Vec ℕ Global)) → Widens bounds → IfSome bounds (λ (made : Vec ℕ Global). x.choice.focus < length made.items)
+  wider-few None same = tt
+  wider-few (Some made) same = (resized-bounds x.composition key x.choice is by made.items (sym same)).1
+
+-- another conversion, with what is kept beside it
+pub IsKept-anew : (x : Chosen) (old bounds : List ℕ) → IsKept x.composition old x.choice → AreBounds (reading x.composition) bounds → x.choice.focus < length bounds → (composition : Composition) (key chosen : List ℕ) (focus : ℕ) (conversion : Conversion) → composition ≡ x.composition → key ≡ reading x.composition → focus ≡ x.choice.focus → conversion ≡ conversion_of x.composition bounds → chosen ≡ kept_places conversion.segments (values_before x.choice) → IsKept composition key (record { conversion = conversion; focus = focus; chosen = chosen })
+IsKept-anew x old bounds is are few composition key chosen focus conversion same_composition key_is same_focus made kept_are =
+    let kept = IsKept-within x.composition old x.choice bounds conversion chosen is are few made kept_are in
+    let anew : IsKept x.composition key (record { conversion = conversion; focus = x.choice.focus; chosen = chosen }) = record { sound = kept.sound; key_is = key_is; converted = kept.converted; chosen = kept.chosen } in
+    let focused = subst (λ n. IsKept x.composition key (record { conversion = conversion; focus = n; chosen = chosen })) (sym same_focus) anew in
+    subst (λ c. IsKept c key (record { conversion = conversion; focus = focus; chosen = chosen })) (sym same_composition) focused

@@ -172,6 +172,7 @@ impl<D: DataSet + Drop, U: UserWords + Drop> Choosing<D, U> {
     pub fn key(&self) -> &[char]
         ensures key { result.now ≡ reading self.now.composition }
         ensures few { length result.now ≤ MOST_KEY }
+        ensures kept { IsKept self.now.composition result.now self.now.choice }
     {
         self.made.key.as_slice()
     }
@@ -271,10 +272,17 @@ fn first_places(alloc: Global, segments: &[Segment]) -> Result<Vec<usize>, NoMem
     ensures { IfOk result (λ places. places.items ≡ map (λ (segment : Segment). 0) segments.now) }
 {
     let mut places = Vec::with_capacity(alloc, segments.len())?;
-    for _place in 0..segments.len() {
-        places.push(0)?;
+    for segment in segments {
+        places.push(first_place(segment))?;
     }
     Ok(places)
+}
+
+/// The place of a segment's first candidate.
+fn first_place(_segment: &Segment) -> usize
+    ensures { result ≡ 0 }
+{
+    0
 }
 
 /// Where the segments begin and end.
