@@ -1,1 +1,6 @@
+pub mod Answers
+pub mod Columns
+pub mod Dictionaries
+pub mod Kept
 pub mod Readings
+pub mod Rows

@@ -1,10 +1,19 @@
-//! A user's dictionary: its words, and the lines that gave none. Start at [`UserDict`].
-//! What the look-ups give: `mz_base`, specs/Users.antt. The file's form: docs/FORMATS.md.
+//! A user's dictionary: its words, and the lines that gave none. Start at [`import`] and [`UserDict`].
+//! What a line gives: specs/Rows.antt, and docs/FORMATS.md. What the look-ups give: `mz_base`, specs/Users.antt.
 #![tactic(auto)]
 
 mod by_reading;
+mod columns;
+mod counts;
 mod dictionary;
+mod error;
+mod importing;
+mod lengths;
+mod reader;
 mod skipped;
+mod words;
 
 pub use dictionary::UserDict;
+pub use error::ImportError;
+pub use importing::import;
 pub use skipped::{Skip, SkippedLine};
