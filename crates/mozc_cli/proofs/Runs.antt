@@ -25,11 +25,11 @@ module _ (lists : DataLists) (e : Event) where
 
   play-more : (s : State) (es : List Event) → play_from lists s (es ++ e ∷ []) ≡ option_and_then (λ t. apply lists t e) (play_from lists s es)
   play-more s [] = just (apply lists s e)
-  play-more s (first ∷ es) = by_first (apply lists s first)
+  play-more s (first ∷ es) = by_first (λ next. play-more next es) (apply lists s first)
     where
-      by_first : (o : Option State) → option_and_then (λ next. play_from lists next (es ++ e ∷ [])) o ≡ option_and_then (λ t. apply lists t e) (option_and_then (λ next. play_from lists next es) o)
-      by_first None = refl
-      by_first (Some next) = play-more next es
+      by_first : ((next : State) → play_from lists next (es ++ e ∷ []) ≡ option_and_then (λ t. apply lists t e) (play_from lists next es)) → (o : Option State) → option_and_then (λ next. play_from lists next (es ++ e ∷ [])) o ≡ option_and_then (λ t. apply lists t e) (option_and_then (λ next. play_from lists next es) o)
+      by_first goes_on None = refl
+      by_first goes_on (Some next) = goes_on next
 
 -- the events that a state has lead to it
 abbrev Plays : World → State → Type 0

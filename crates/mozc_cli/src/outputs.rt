@@ -1,5 +1,4 @@
-ghost use Rattle.std.specs.Prelude.{◌≡◌, ◌≢◌, ◌++◌, ◌<◌, Some, Ok, Err, IfOk, codes, length};
-ghost use Rattle.std.specs.Arc.{arc_value};
+ghost use Rattle.std.specs.Prelude.{◌≡◌, ◌≢◌, ◌++◌, ◌<◌, Some, Ok, Err, codes, length};
 ghost use Rattle.std.specs.Fmt.{signed_decimal};
 ghost use Rattle.std.specs.String.{string_bytes};
 ghost use Rattle.conversion_meaning.specs.Lattices.{AreBounds, IsKey};
@@ -17,11 +16,10 @@ use crate::run::serve;
 use crate::verdict::verify;
 use converter::convert;
 use engine::Engine;
-use mz_base::{Certificate, DataSet, Limit, Line, Logs, NoMemory, NoUserWords, Refusal, Word};
+use mz_base::{Certificate, DataSet, Limit, Line, Logs, NoUserWords, Refusal, Word};
 use mz_outside::Store;
 use report::{MOST_REPORT_BYTES, PrintError};
 use std::alloc::Global;
-use std::sync::Arc;
 use world_files::{Bounds, Loaded, Name, Query, read_claim, read_listing, read_set, read_world};
 
 /// What a command writes, and whether an expectation was not met in it.
@@ -63,15 +61,8 @@ fn report_in_limit(alloc: Global, world: Loaded) -> Result<Output, Refusal>
     ensures reads_nothing { result ≢ Err Refusal.ReadFault }
 {
     let Loaded { user, client, set } = world;
-    let set = shared(alloc, set)?;
-    let logs = serve(alloc, &set, user.as_ref(), client.as_ref())?;
+    let logs = serve(alloc, set, user.as_ref(), client.as_ref())?;
     report_of(alloc, &logs)
-}
-
-fn shared(alloc: Global, set: Engine) -> Result<Arc<Engine>, NoMemory>
-    ensures { IfOk result (λ made. arc_value made ≡ set) }
-{
-    Ok(Arc::new(alloc, set)?)
 }
 
 fn report_of(alloc: Global, logs: &Logs) -> Result<Output, Refusal>

@@ -19,19 +19,20 @@ use world_files::Plan;
 /// where there is a client, and the close of the log.
 pub fn serve<D: DataSet + Drop>(
     alloc: Global,
-    set: &Arc<D>,
+    set: D,
     user: Option<&Text>,
     client: Option<&Plan>,
 ) -> Result<Logs, NoMemory>
-    ensures { IfOk result (λ logs. logs ≡ run_logs (D.lists (arc_value set.now)) (option_copied user.entry) (option_copied client.entry)) }
+    ensures { IfOk result (λ logs. logs ≡ run_logs (D.lists set) (option_copied user.entry) (option_copied client.entry)) }
 {
+    let set = Arc::new(alloc, set)?;
     let Service {
         lines,
         own,
         journal,
         mut events,
         ..
-    } = all_done(alloc, set, client)?;
+    } = all_done(alloc, &set, client)?;
     events.push(Event::Close)?;
     Ok(Logs {
         clients: client_logs(alloc, client, lines, own)?,
