@@ -223,7 +223,14 @@ fn learn_one(history: &mut Vec<Pair>, pair: Pair) -> Result<(), NoMemory>
 fn without(history: &mut Vec<Pair>, pair: &Pair)
     ensures { history.new.items ≡ filter (λ other. not (is_pair pair.now other)) history.old.items }
 {
-    history.retain(|other| !is_pair(pair, other));
+    history.retain(|other| is_another(pair, other));
+}
+
+/// Whether they differ in key or value.
+fn is_another(pair: &Pair, other: &Pair) -> bool
+    ensures { result ≡ not (is_pair pair.now other.now) }
+{
+    !is_pair(pair, other)
 }
 
 fn is_pair(pair: &Pair, other: &Pair) -> bool
