@@ -15,10 +15,12 @@ pub struct UserDict {
 }
 
 impl UserDict {
+    ghost use Rattle.user_dict.specs.Dictionaries.{taken_in};
+
     /// No rows, and no line was skipped. Takes no memory.
     pub fn empty(alloc: Global) -> UserDict
         ensures rows { ⟦<UserDict as UserWords>⟧.rows result ≡ [] }
-        ensures skipped { result.skipped.items ≡ [] }
+        ensures skipped { (taken_in result).skipped ≡ [] }
     {
         UserDict {
             kept: ByReading::none(alloc),
@@ -49,7 +51,7 @@ impl UserDict {
 
     /// The lines that were skipped, in order.
     pub fn skipped(&self) -> &[SkippedLine]
-        ensures { result.now ≡ self.now.skipped.items }
+        ensures { result.now ≡ (taken_in self.now).skipped }
     {
         self.skipped.as_slice()
     }
