@@ -18,8 +18,6 @@ mod entries;
 #[cfg(test)]
 mod lattices;
 #[cfg(test)]
-mod many_words;
-#[cfg(test)]
 mod rules;
 #[cfg(test)]
 mod suggestions;
