@@ -42,7 +42,7 @@ pub use in_order::{
 };
 pub use lattices::{cursors_are_first, ends_are_found, sources_come_first, whole_has_all};
 pub use order::{before_goes_on, one_is_before};
-pub use rules::{KANJI_DIGITS, MOST_DIGITS, digit_limit_is};
+pub use rules::{KANJI_DIGITS, MOST_DIGITS, RULE_ORDER, digit_limit_is, rule_order_is};
 pub use segments::{
     cut_keeps_bounds, cut_parts_are_all, cut_parts_are_paths, cut_parts_are_spans, cut_touches,
     segment_values_are_once, segments_are_some, segments_begin_with_the_path, segments_have_values,

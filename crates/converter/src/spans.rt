@@ -1,4 +1,4 @@
-ghost use Rattle.std.specs.Prelude.{◌≡◌, ◌==◌, find};
+ghost use Rattle.std.specs.Prelude.{◌≡◌, ◌==◌, find, slice_range};
 ghost use Rattle.std.specs.Option.{option_copied};
 ghost use Rattle.conversion_meaning.specs.Lattices.{entry};
 ghost use Rattle.conversion_meaning.specs.Segments.{id_after, id_before, span_between};
@@ -66,4 +66,14 @@ fn entry(entries: &[Entry], ordinal: u32) -> Entry
             source: Source::User(0),
         },
     }
+}
+
+/// The characters of the key from one position to another, as far as there are any.
+pub fn part_of(key: &[char], begin: u16, end: u16) -> &[char]
+    ensures { result.now ≡ slice_range key.now begin end }
+{
+    let (begin, end) = (usize::from(begin), usize::from(end));
+    let (_, rest) = key.split_at(begin.min(key.len()));
+    let (part, _) = rest.split_at(end.saturating_sub(begin).min(rest.len()));
+    part
 }

@@ -15,6 +15,7 @@ use Rattle.mz_base.specs.declared.status.Status.{Status}
 use Rattle.mz_base.specs.declared.status.Status.TheVariants as status
 use Rattle.mz_outside.specs.Taken.{with_more, AddsFront}
 use Rattle.conversion_meaning.specs.Answers.{answer}
+use Rattle.conversion_meaning.specs.declared.rules.TheConstants.{RULE_ORDER}
 use Rattle.world_files.specs.Conversions.{IsVerdictOn}
 use Rattle.mozc_cli.specs.Core.{State, logs_of, play, run_order, start}
 use Rattle.world_files.specs.Queries.{Claimed, query_set, query_claim}
@@ -74,9 +75,9 @@ run_meant files name = world files name >>= (λ world. limited (run_output world
 abbrev pub check_meant : Files → List ℕ → Result Output Refusal
 check_meant files name = listing files name >>= (λ text. limited (list_output text))
 
--- what the text of a key's answer gives, by a data set with no user words
+-- what the text of a key's answer gives, by a data set with no user words and no history
 abbrev pub answered : List ℕ → List ℕ → DataLists → Result Output Refusal
-answered key bounds set = limited (list_output (conversion_text key (answer set [] [] [] key bounds)))
+answered key bounds set = limited (list_output (conversion_text key (answer set [] [] RULE_ORDER key bounds)))
 
 -- what converting a key gives: its answer by the data set that is asked
 abbrev pub convert_meant : Files → Query → List ℕ → Result Output Refusal

@@ -138,7 +138,7 @@ fn converted<D: DataSet>(
 {
     let bounds = bounds.to_vec(alloc)?;
     let nobody = NoUserWords::new(alloc);
-    let conversion = convert(alloc, set, &nobody, key, bounds.as_slice())?;
+    let conversion = convert(alloc, set, &nobody, &[], key, bounds.as_slice())?;
     let text = conversion_text::print(alloc, key, &conversion)?;
     listed(text)
 }

@@ -189,6 +189,13 @@ impl<D: DataSet + Drop, U: UserWords + Drop> Composition<D, U> {
         requires bounds { AreBounds key.now bounds.now }
         ensures { IfOk result (λ conversion. conversion ≡ conversion_of self.now bounds.now) }
     {
-        converter::convert(alloc, &*self.pinned.set, &*self.pinned.words, key, bounds)
+        converter::convert(
+            alloc,
+            &*self.pinned.set,
+            &*self.pinned.words,
+            self.pinned.history.as_slice(),
+            key,
+            bounds,
+        )
     }
 }

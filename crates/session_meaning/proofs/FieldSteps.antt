@@ -23,7 +23,8 @@ use Rattle.keys.specs.declared.key.Key.{Key}
 use Rattle.keys.specs.declared.key.Key.TheVariants as key
 use Rattle.session_meaning.specs.Fields.{ArePinnedFields, IsCommandField, IsField, IsFieldCharacter, IsKeyField, IsLineField, IsRuleField, IsStepField}
 use Rattle.session_meaning.specs.Lines.{choosing_rest, line_of, line_with, page, rest_of}
-use Rattle.session_meaning.specs.Outcomes.{Outcome, Committed, Converted, Filled, Passed, Went, at_number, begun, can_convert, conversion_of, count_in_focus, empty, first_choice, parts_of, reconverted, session_rules, suggestion_at, took_suggestion, with_chosen, with_text}
+use Rattle.conversion_meaning.specs.declared.rules.TheConstants.{RULE_ORDER}
+use Rattle.session_meaning.specs.Outcomes.{Outcome, Committed, Converted, Filled, Passed, Went, at_number, begun, can_convert, conversion_of, count_in_focus, empty, first_choice, parts_of, reconverted, suggestion_at, took_suggestion, with_chosen, with_text}
 use Rattle.session_meaning.specs.Reached.{reached}
 use Rattle.session_meaning.specs.ReachedLaws.{LearnedAreFields, LinesAreFields}
 use Rattle.session_meaning.specs.Stages.{Choice, Composition, Pinned, Session, Stage, C, P, V, chosen_in_focus, chosen_pairs, chosen_text, chosen_values, cursor, mode_of, no_segment, opening, picks, picks_from, preedit, reading, rules_of, segment_in_focus, shown, suggested, value_at}
@@ -195,7 +196,7 @@ either false one other here there = there
 
 PlainSegments-conversion : (c : Composition) (bounds : List ℕ) → PlainComposition c → PlainSegments (conversion_of c bounds).segments
 PlainSegments-conversion c bounds is =
-    PlainSegments-answer c.pinned session_rules (reading c) bounds is.data_are (Plain-read c is)
+    PlainSegments-answer c.pinned RULE_ORDER (reading c) bounds is.data_are (Plain-read c is)
 
 plain-begun : (taken : Option Pinned) (letter : ℕ) → IfSome taken ArePinnedFields → IsFieldCharacter letter → PlainStage (begun taken letter)
 plain-begun None letter data_are typed = tt

@@ -21,7 +21,8 @@ use Rattle.keys.specs.declared.action.Action.{Action}
 use Rattle.keys.specs.declared.action.Action.TheVariants as action
 use Rattle.keys.specs.declared.command.Command.{Command}
 use Rattle.keys.specs.declared.command.Command.TheVariants as command
-use Rattle.session_meaning.specs.Outcomes.{Outcome, Committed, Converted, Filled, Passed, Went, begun, can_convert, conversion_of, converted, count_in_focus, first_choice, parts_of, rechosen, reconverted, session_rules, suggestion_at, took_candidate, took_suggestion, widened, with_chosen, with_text}
+use Rattle.conversion_meaning.specs.declared.rules.TheConstants.{RULE_ORDER}
+use Rattle.session_meaning.specs.Outcomes.{Outcome, Committed, Converted, Filled, Passed, Went, begun, can_convert, conversion_of, converted, count_in_focus, first_choice, parts_of, rechosen, reconverted, suggestion_at, took_candidate, took_suggestion, widened, with_chosen, with_text}
 use Rattle.session_meaning.specs.Reached.{AreTakenSound, IsComposed, IsConverted, IsPinnedSound, IsSound, IsStage}
 use Rattle.session_meaning.specs.ReachedLaws.{ReachedIsSound, ResizedAreBounds, SoundStays}
 use Rattle.session_meaning.specs.Stages.{Choice, Composition, Pinned, Session, Stage, C, P, V, chosen_in_focus, mode_of, opening, preedit, reading, shown}
@@ -33,19 +34,19 @@ use Rattle.session_meaning.proofs.ChoiceLemmas.{AreBounds-resized, HaveValues, I
 module _ (c : Composition) (sound : IsPinnedSound c.pinned) (key : IsKey (reading c)) (bounds : List ℕ) (are : AreBounds (reading c) bounds) where
   pub conversion-some : 0 < length (conversion_of c bounds).segments
   conversion-some =
-      segments-some c.pinned.lists c.pinned.rows (reading c) bounds sound.lists key are c.pinned.history session_rules
+      segments-some c.pinned.lists c.pinned.rows (reading c) bounds sound.lists key are c.pinned.history RULE_ORDER
 
   pub conversion-valued : HaveValues (conversion_of c bounds).segments
   conversion-valued =
-      segments-have_values c.pinned.lists c.pinned.rows c.pinned.history session_rules (reading c) bounds sound.lists key are
+      segments-have_values c.pinned.lists c.pinned.rows c.pinned.history RULE_ORDER (reading c) bounds sound.lists key are
 
   pub conversion-touches : AreTouching 0 (length (reading c)) (map part_of (conversion_of c bounds).segments)
   conversion-touches =
-      segments-touch c.pinned.lists c.pinned.rows (reading c) bounds sound.lists key are c.pinned.history session_rules
+      segments-touch c.pinned.lists c.pinned.rows (reading c) bounds sound.lists key are c.pinned.history RULE_ORDER
 
   pub conversion-keeps : length bounds ≤ length (conversion_of c bounds).segments
   conversion-keeps =
-      few-bounds (conversion_of c bounds).segments bounds (segments-keep_bounds c.pinned.lists c.pinned.rows c.pinned.history session_rules (reading c) bounds)
+      few-bounds (conversion_of c bounds).segments bounds (segments-keep_bounds c.pinned.lists c.pinned.rows c.pinned.history RULE_ORDER (reading c) bounds)
 
   pub IsConverted-within : IsConverted c (conversion_of c bounds)
   IsConverted-within = record { key = key; within = (bounds, are, refl) }

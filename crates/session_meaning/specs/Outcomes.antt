@@ -11,6 +11,7 @@ use Rattle.composer.specs.Composing.{Composing, backspaced, deleted, inserted, m
 use Rattle.composer.specs.declared.composer.TheConstants.{MOST_SHOWN}
 use Rattle.conversion_meaning.specs.Answers.{answer}
 use Rattle.conversion_meaning.specs.Segments.{resized}
+use Rattle.conversion_meaning.specs.declared.rules.TheConstants.{RULE_ORDER}
 use Rattle.keys.specs.declared.action.Action.{Action}
 use Rattle.keys.specs.declared.action.Action.TheVariants as action
 use Rattle.session_meaning.specs.Stages.{Choice, Composition, Pinned, Stage, C, P, V, chosen_in_focus, chosen_text, picks, preedit, reading, rules_of, segment_in_focus, suggested, value_at}
@@ -48,14 +49,10 @@ abbrev pub typed : Composition → ℕ → Outcome
 typed c letter =
     if nat_le MOST_SHOWN (length (preedit c)) then Filled else Went (with_text c (inserted c.text letter))
 
--- the numbers of the rules of a session's conversions
-abbrev pub session_rules : List ℕ
-session_rules = []
-
 -- the conversion of the reading by the pinned data
 abbrev pub conversion_of : Composition → List ℕ → Conversion
 conversion_of c bounds =
-    answer c.pinned.lists c.pinned.rows c.pinned.history session_rules (reading c) bounds
+    answer c.pinned.lists c.pinned.rows c.pinned.history RULE_ORDER (reading c) bounds
 
 -- the first segment in focus, each with its first candidate
 abbrev pub first_choice : Conversion → Choice
