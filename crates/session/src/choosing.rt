@@ -94,6 +94,14 @@ impl<D: DataSet + Drop, U: UserWords + Drop> Choosing<D, U> {
         })
     }
 
+    /// The same, shared.
+    pub fn share(&self, alloc: Global) -> Result<Choosing<D, U>, NoMemory>
+        ensures { IfOk result (λ c. c ≡ self.now) }
+    {
+        let chosen = Vec::from_slice(alloc, self.chosen.as_slice())?;
+        self.with(self.focus, chosen)
+    }
+
     /// Another candidate of the segment in focus.
     pub fn with_chosen(&self, alloc: Global, place: usize) -> Result<Choosing<D, U>, NoMemory>
         requires { place < count_in_focus self.now.choice }

@@ -18,6 +18,7 @@ use keys::{Action, Command, Key, bind};
 use mz_base::{Conversion, DataSet, Line, Mode, NoMemory, Pair, Text, UserWords, Word};
 use std::alloc::Global;
 use std::marker::Model;
+use std::sync::Arc;
 
 /// One client's session.
 #[derive(Drop)]
@@ -49,6 +50,29 @@ impl<D: DataSet + Drop, U: UserWords + Drop> Session<D, U> {
             stage: Stage::Precomposition,
             last: Text::from_vec(Vec::new(alloc)),
             fresh: false,
+        }
+    }
+
+    /// The same session. What is composed and what was converted are shared, so that a copy costs the text of the last commit
+    /// and the chosen places.
+    pub fn copy(&self) -> Result<Session<D, U>, NoMemory>
+        ensures { IfOk result (λ copy. copy ≡ self.now) }
+    {
+        Ok(Session {
+            alloc: self.alloc,
+            stage: self.shared_stage()?,
+            last: self.last.copy(self.alloc)?,
+            fresh: self.fresh,
+        })
+    }
+
+    fn shared_stage(&self) -> Result<Stage<D, U>, NoMemory>
+        ensures { IfOk result (λ stage. stage_of stage ≡ self.now.stage) }
+    {
+        match &self.stage {
+            Stage::Precomposition => Ok(Stage::Precomposition),
+            Stage::Composition(composition) => Ok(Stage::Composition(Arc::try_clone(composition)?)),
+            Stage::Conversion(choosing) => Ok(Stage::Conversion(choosing.share(self.alloc)?)),
         }
     }
 
