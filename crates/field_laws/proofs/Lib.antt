@@ -1,0 +1,4 @@
+pub mod DictFields
+pub mod FieldParts
+pub mod ScriptFields
+pub mod SetFields
