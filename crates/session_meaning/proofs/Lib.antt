@@ -4,6 +4,7 @@ pub mod DataLemmas
 pub mod FieldAnswers
 pub mod FieldSteps
 pub mod FieldTexts
+pub mod HistoryLemmas
 pub mod KeyFields
 pub mod LearnedKeys
 pub mod SoundLemmas

@@ -1,6 +1,7 @@
 pub mod Examples
 pub mod Fields
 pub mod History
+pub mod HistoryLaws
 pub mod Laws
 pub mod Lines
 pub mod Outcomes

@@ -13,7 +13,7 @@ pub use examples::{
     kyo_suggests, kyouha_converts, kyouha_is_committed, kyouha_narrows, second_is_taken,
     third_passes,
 };
-pub use history::{MOST_PAIRS, history_limit_is};
+pub use history::{MOST_PAIRS, history_limit_is, relearned_history_is_same};
 pub use laws::{
     data_stay, learned_is_committed, lines_tell_the_session, quiet_commands_change_nothing,
     results_are_last, takes_come_first,

@@ -1,3 +1,4 @@
 pub mod CountLemmas
+pub mod OutcomeLemmas
 pub mod PlaceLemmas
 pub mod RowLemmas
