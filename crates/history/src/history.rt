@@ -50,7 +50,7 @@ impl History {
     {
         // Both texts are made first: what refuses them leaves the cache alone.
         let kept = kept_of(alloc, key, value)?;
-        let _count = self.kept.len();
+        let _held = self.kept.len();
         self.kept.put(kept, ())?;
         Ok(())
     }

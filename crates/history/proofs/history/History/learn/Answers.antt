@@ -9,7 +9,7 @@ use Rattle.history.proofs.history.History.learn.Goals as goal
 
 pub returns-clause-ok : goal.returns-clause-ok
 returns-clause-ok c =
-    let learned = put-learned _ kept-is_pair c.in_ok-kept.kept c.self.inside.kept c.len-count.ensures.valid c.self.invariant in
+    let learned = put-learned _ kept-is_pair c.in_ok-kept.kept c.self.inside.kept c.len-held.ensures.valid c.self.invariant in
     ap (λ (cache : LruCache Kept (Unit {0})). pairs_of cache.entries) c.in_ok-put.ensures.entries
     ∙ (learned
     ∙ (ap (λ (pairs : List Pair). with_learned pairs (pair_of c.in_ok-kept.kept)) c.self.view_is ∙ ap (λ (pair : Pair). with_learned c.args.self.now pair) c.in_ok-kept.ensures))
