@@ -78,7 +78,8 @@ fn write_dict(out: &mut String, notes: &[DictNote], reload: u32) -> Result<(), N
     Ok(())
 }
 
-fn write_note(out: &mut String, note: DictNote) -> Result<(), NoMemory>
+/// What a reload gave: the rows kept and skipped, or its fault.
+pub fn write_note(out: &mut String, note: DictNote) -> Result<(), NoMemory>
     ensures { OnOk result (string_bytes out.new ≡ string_bytes out.old ++ note_text note) }
 {
     match note {

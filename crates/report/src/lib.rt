@@ -16,7 +16,8 @@ mod text;
 mod writer;
 
 pub use error::PrintError;
+pub use journals::write_note;
 pub use laws::limits_are;
 pub use named::are_named;
-pub use room::MOST_REPORT_BYTES;
+pub use room::{MOST_REPORT_BYTES, within};
 pub use writer::print;

@@ -8,6 +8,8 @@ use Rattle.mz_base.specs.declared.conversion.Conversion.{Conversion}
 use Rattle.mz_base.specs.declared.conversion.Segment.{Segment}
 use Rattle.mz_base.specs.declared.user.UserRow.{UserRow}
 use Rattle.conversion_meaning.specs.Answers.{answer}
+use Rattle.conversion_meaning.specs.declared.rules.TheConstants.{RULE_ORDER}
+use Rattle.mz_base.specs.declared.lattice.Pair.{Pair}
 use Rattle.conversion_meaning.specs.Lattices.{AreBounds, IsKey}
 use Rattle.conversion_meaning.specs.SegmentLaws.{AreTouching, part_of}
 use Rattle.conversion_meaning.specs.Segments.{can_widen, resized, wider_end}
@@ -18,11 +20,10 @@ use Rattle.session_meaning.proofs.ChoiceLemmas.{AreBounds-resized, IsChosen-firs
 use Rattle.session_meaning.proofs.SoundLemmas.{AreBounds-none, IsConverted-within, conversion-keeps, conversion-some, conversion-touches, conversion-valued, ends-past_focus}
 use Rattle.session.specs.Kept.{Chosen, IsKept}
 
--- a conversion by these data, as no rule sees the history
-pub conversion-is : (lists : DataLists) (rows : List UserRow) (c : Composition) (key bounds : List ℕ) → lists ≡ c.pinned.lists → rows ≡ c.pinned.rows → key ≡ reading c → answer lists rows [] [] key bounds ≡ conversion_of c bounds
-unfolding answer
-conversion-is lists rows c key bounds same same_rows same_key =
-    ap (λ d. answer d rows [] [] key bounds) same ∙ ap (λ us. answer c.pinned.lists us [] [] key bounds) same_rows ∙ ap (λ k. answer c.pinned.lists c.pinned.rows [] [] k bounds) same_key
+-- a conversion by these data
+pub conversion-is : (lists : DataLists) (rows : List UserRow) (history : List Pair) (c : Composition) (key bounds : List ℕ) → lists ≡ c.pinned.lists → rows ≡ c.pinned.rows → history ≡ c.pinned.history → key ≡ reading c → answer lists rows history RULE_ORDER key bounds ≡ conversion_of c bounds
+conversion-is lists rows history c key bounds same same_rows same_history same_key =
+    ap (λ d. answer d rows history RULE_ORDER key bounds) same ∙ (ap (λ us. answer c.pinned.lists us history RULE_ORDER key bounds) same_rows ∙ (ap (λ h. answer c.pinned.lists c.pinned.rows h RULE_ORDER key bounds) same_history ∙ ap (λ k. answer c.pinned.lists c.pinned.rows c.pinned.history RULE_ORDER k bounds) same_key))
 
 -- the first choice
 first-kept : (c : Composition) (key : List ℕ) → IsPinnedSound c.pinned → key ≡ reading c → IsKey key → IsKept c key (first_choice (conversion_of c []))

@@ -1,4 +1,5 @@
 pub mod BoundLemmas
+pub mod FewReloads
 pub mod LineCounts
 pub mod ListingSteps
 pub mod ReadLaws

@@ -15,7 +15,7 @@ use Rattle.scenario.specs.declared.manifest.ManifestError.TheVariants.{Bad}
 use Rattle.scenario.proofs.AnswerSteps.{after-Ok, if-Ok, if-made}
 use Rattle.scenario.proofs.NameLaws.{manifest_after-IsNamed, nothing_told-IsNamed}
 use Rattle.scenario.proofs.SoundLaws.{manifest_after-IsSound, nothing_told-IsKept}
-use Rattle.world_files.specs.Unbuilt.{IsServed, is_certificates, is_dictionary, is_same, is_second, is_unbuilt, manifest_served, or_unbuilt, refused_line, single_in, text_fields, unbuilt_after, unbuilt_line}
+use Rattle.world_files.specs.Unbuilt.{IsServed, is_certificates, is_same, is_second, is_unbuilt, manifest_served, or_unbuilt, refused_line, single_in, text_fields, unbuilt_after, unbuilt_line}
 use Rattle.world_files.specs.declared.unbuilt.Single.{Single}
 use Rattle.world_files.specs.declared.unbuilt.Single.TheVariants as single
 
@@ -181,10 +181,9 @@ first-of_kind kind seen (Some word) new before after few grows =
     goes_on (list_any (λ other. is_same other kind) seen) (is_same word kind) (λ same. subst (λ other_kind. list_any (λ other. is_same other other_kind) seen ≡ false) (same-is word kind same) new) before after few grows
     )
 
-second-false : (a b c : Bool) → (a || (true && (b || c))) ≡ false → c ≡ false
-second-false false false c is = is
-second-false true b c is = absurd (let clash : true ≡ false = is in cc)
-second-false false true c is = absurd (let clash : true ≡ false = is in cc)
+second-false : (b c : Bool) → (true && (b || c)) ≡ false → c ≡ false
+second-false false c is = is
+second-false true c is = absurd (let clash : true ≡ false = is in cc)
 
 abbrev counted_of : Single → Manifest → ℕ
 counted_of single.Set manifest = length manifest.sets
@@ -213,7 +212,7 @@ counts-few kind seen told number (line ∷ lines) manifest built is few =
           let read = after-Ok (with_line number told line) (λ more. manifest_after more (number + 1) lines) manifest is in
           let word = single_in (text_fields line) in
           let fields = text_fields line in
-          let new = second-false (is_dictionary fields) (is_certificates fields) (is_second seen word) served in
+          let new = second-false (is_certificates fields) (is_second seen word) served in
           let rest = rw served at built in
           counts-few kind (seen ++ option_to_list word) read.0 (number + 1) lines manifest rest read.2 (
           first-of_kind kind seen word new (counted kind told) (counted kind read.0) few (line-grows kind number told read.0 line read.1)

@@ -1,4 +1,4 @@
--- The data sets of a manifest, and their listing: docs/FORMATS.md, "The listing of data sets".
+-- The data sets of a manifest: docs/FORMATS.md, "Data files" and "The listing of data sets".
 use Rattle.std.specs.Prelude.{ℕ, ◌+◌, ◌-◌, ◌==◌, not, List, [], ◌∷◌, ◌++◌, map, filter, Result, Ok, Err, codes, encode_utf8_all, length, slice_index_or}
 use Rattle.std.specs.Fmt.{decimal}
 use Rattle.mz_base.specs.Answers.{◌>>=◌}
@@ -31,13 +31,18 @@ or_bad files (Err fault) = Err (refusal.BadData (record { path = path_of files f
 abbrev pub set_in : List SetFile → Result DataLists Refusal
 set_in files = or_bad files (data_of files)
 
--- a set's line: its name, and how many ids, words and romaji rules it has
-abbrev pub set_text : List ℕ → DataLists → List ℕ
-set_text name set =
-    codes "set\t" ++ (encode_utf8_all name ++ (codes "\t" ++ (decimal set.ids ++ (codes "\t" ++ (decimal (length set.words) ++ (codes "\t" ++ (decimal (length set.rules) ++ codes "\n")))))))
+-- a data set and its name
+pub record NamedSet : Type 0 where
+  pub name : List ℕ
+  pub lists : DataLists
 
--- the lines so far, and then those of the sets from this number on; or the first that does not read
-abbrev pub listing_after : List DataFile → List ℕ → ℕ → List (List ℕ) → Result (List ℕ) Refusal
-listing_after files text number [] = Ok text
-listing_after files text number (name ∷ names) =
-    set_in (files_of number files) >>= (λ set. listing_after files (text ++ set_text name set) (number + 1) names)
+-- a set's line: its name, and how many ids, words and romaji rules it has
+abbrev pub set_text : NamedSet → List ℕ
+set_text set =
+    codes "set\t" ++ (encode_utf8_all set.name ++ (codes "\t" ++ (decimal set.lists.ids ++ (codes "\t" ++ (decimal (length set.lists.words) ++ (codes "\t" ++ (decimal (length set.lists.rules) ++ codes "\n")))))))
+
+-- the sets before, and then those of these names, numbered from here; or the first that does not read
+abbrev pub sets_after : List DataFile → List NamedSet → ℕ → List (List ℕ) → Result (List NamedSet) Refusal
+sets_after files before number [] = Ok before
+sets_after files before number (name ∷ names) =
+    set_in (files_of number files) >>= (λ lists. sets_after files (before ++ record { name = name; lists = lists } ∷ []) (number + 1) names)

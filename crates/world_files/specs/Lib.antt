@@ -1,10 +1,13 @@
 pub mod BoundTexts
 pub mod Claims
 pub mod DataSets
+pub mod Listings
 pub mod Loaded
 pub mod Queries
 pub mod Reading
+pub mod Reloads
 pub mod Unbuilt
+pub mod Users
 pub mod Worlds
 pub mod UnbuiltCommands
 pub mod Conversions

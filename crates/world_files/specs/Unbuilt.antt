@@ -35,20 +35,14 @@ abbrev pub is_second : List Single → Option Single → Bool
 is_second seen None = false
 is_second seen (Some word) = list_any (λ other. is_same other word) seen
 
--- the dictionary of a user
-abbrev pub is_dictionary : List (List ℕ) → Bool
-is_dictionary [] = false
-is_dictionary (word ∷ fields) = bytes_eq word (codes "USERDICT")
-
 -- certificates in the report
 abbrev pub is_certificates : List (List ℕ) → Bool
 is_certificates [] = false
 is_certificates (word ∷ fields) = bytes_eq word (codes "CERTIFICATES")
 
--- the first of these is not built for any command, and the others are not built for a run
+-- certificates, and a second set, user or client, are not built for a run
 abbrev pub is_unbuilt : Bool → List Single → List (List ℕ) → Bool
-is_unbuilt in_run seen fields =
-    is_dictionary fields || (in_run && (is_certificates fields || is_second seen (single_in fields)))
+is_unbuilt in_run seen fields = in_run && (is_certificates fields || is_second seen (single_in fields))
 
 -- the fields of a line that is text; a line that is none has no fields
 abbrev pub text_fields : List ℕ → List (List ℕ)

@@ -1,21 +1,25 @@
 -- What the files of a run mean, or the first refusal in the order of work: docs/FORMATS.md, "Order of work".
-use Rattle.std.specs.Prelude.{ℕ, ◌-◌, Bool, true, false, List, [], Option, Some, None, slice_get, Result, Ok, length}
+use Rattle.std.specs.Prelude.{ℕ, ◌-◌, Bool, true, false, List, [], Option, Some, None, option_map, slice_get, Result, Ok, length}
 use Rattle.mz_base.specs.Answers.{◌>>=◌}
 use Rattle.mz_base.specs.Data.{DataLists}
 use Rattle.scenario.specs.declared.manifest.ClientLine.{ClientLine}
-use Rattle.world_files.specs.DataSets.{files_of, set_in, listing_after}
+use Rattle.world_files.specs.DataSets.{files_of, set_in, sets_after}
+use Rattle.world_files.specs.Listings.{limited_text, listing_text}
 use Rattle.world_files.specs.Reading.{Files, file, files_after}
+use Rattle.world_files.specs.Reloads.{reloads_after}
 use Rattle.world_files.specs.Unbuilt.{manifest_served}
 use Rattle.world_files.specs.UnbuiltCommands.{script_obeyed}
+use Rattle.world_files.specs.Users.{user_of}
 use Rattle.world_files.specs.declared.reading.TheConstants.{MOST_READ_BYTES}
 use Rattle.mz_base.specs.declared.status.Refusal.{Refusal}
+use Rattle.world_files.specs.declared.users.User.{User}
 use Rattle.world_files.specs.declared.world.Opened.{Opened}
 use Rattle.world_files.specs.declared.world.Plan.{Plan}
 use Rattle.world_files.specs.declared.world.Planned.{Planned}
 
--- what the files of a run mean: its user and its client, where there are such, and its data
+-- what the files of a run mean: its user with the reloads, and its client, where there are such, and its data
 pub record World : Type 0 where
-  pub user : Option (List ℕ)
+  pub user : Option User
   pub client : Option Plan
   pub set : DataLists
 
@@ -38,18 +42,22 @@ abbrev pub planned : Files → ℕ → Option ClientLine → Result Planned Refu
 planned files left None = Ok (record { client = None; left = left })
 planned files left (Some line) = client_in files left line
 
--- What the files of a run mean: the manifest is read, then the script, then the data files, and the set is built.
+-- What the files of a run mean: the manifest is read, then the script, the data files and the users' dictionaries, and the set
+-- is built.
 unfoldable pub world : Files → List ℕ → Result World Refusal
 world files name = do
   start ← opened true files name
   plan ← planned files start.left (slice_get start.manifest.clients 0)
   found ← files_after files [] plan.left start.manifest.files
+  reloads ← reloads_after files [] found.left start.manifest.dicts
   set ← set_in (files_of 1 found.files)
-  Ok (record { user = slice_get start.manifest.users 0; client = plan.client; set = set })
+  Ok (record { user = option_map (user_of reloads 1) (slice_get start.manifest.users 0); client = plan.client; set = set })
 
--- The lines of all data sets: the manifest is read, then all data files, and the sets are built in order.
+-- The listing of a manifest: it is read, then all data files and all users' dictionaries, and the sets are built in order.
 unfoldable pub listing : Files → List ℕ → Result (List ℕ) Refusal
 listing files name = do
   start ← opened false files name
   found ← files_after files [] start.left start.manifest.files
-  listing_after found.files [] 1 start.manifest.sets
+  reloads ← reloads_after files [] found.left start.manifest.dicts
+  sets ← sets_after found.files [] 1 start.manifest.sets
+  limited_text (listing_text sets reloads start.manifest.users)

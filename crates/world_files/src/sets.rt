@@ -1,14 +1,29 @@
 ghost use Rattle.std.specs.Prelude.{◌≡◌, ◌≢◌, ◌<◌, ◌≤◌, ◌^◌, ◌++◌, ◌∷◌, ◌-◌, [], Some, Err, IfOk, OnOk, filter, length, map, slice_get, slice_index_or};
-ghost use Rattle.std.specs.String.{string_bytes};
 ghost use Rattle.engine.specs.Sets.{has_role};
 ghost use Rattle.mz_base.specs.Data.{DataLists};
-ghost use Rattle.world_files.specs.DataSets.{files_of, others_of, path_of, or_bad, set_in, set_text, listing_after};
+ghost use Rattle.world_files.specs.DataSets.{files_of, others_of, path_of, or_bad, set_in, sets_after};
 ghost use Rattle.world_files.specs.Reading.{Tells, IsRefusal};
 
 use crate::reading::DataFile;
 use engine::{BuildError, Engine, SetFile, SetFiles, build, has_role};
 use mz_base::{BadSet, DataSet, Fault, NoMemory, Refusal, Seq, Text};
 use std::alloc::Global;
+use std::marker::Model;
+
+/// A data set and its name.
+#[derive(Drop)]
+pub struct NamedSet<D: DataSet> {
+    pub name: Text,
+    pub set: D,
+}
+
+impl<D: DataSet> Model for NamedSet<D> {
+    ghost use Rattle.world_files.specs.DataSets.{NamedSet as Meant};
+
+    ghost Value = { Meant };
+
+    ghost view = { λ n. record { name = n.name; lists = D.lists n.set } };
+}
 
 /// Some data files: those of one set, and those of the others.
 #[derive(Drop)]
@@ -27,22 +42,35 @@ pub fn first_set(alloc: Global, files: Vec<DataFile>) -> Result<Engine, Refusal>
     set_in(alloc, split.own)
 }
 
-/// The lines of the sets of these names, in order, from their files; else the first set that does not read.
-pub fn list_sets(alloc: Global, files: Vec<DataFile>, names: &[Text]) -> Result<String, Refusal>
+/// The data sets of these names, in order, from their files; else the first that does not read.
+pub fn all_sets(
+    alloc: Global,
+    files: Vec<DataFile>,
+    names: &[Text],
+) -> Result<Vec<NamedSet<Engine>>, Refusal>
     requires few { length files.items < 2 ^ 32 }
     requires sets { length names.now < 2 ^ 32 - 1 }
-    ensures told { Tells (λ text. string_bytes text) result (listing_after files.items [] 1 names.now) }
+    ensures told { Tells (λ sets. sets.items) result (sets_after files.items [] 1 names.now) }
     ensures reads_nothing { result ≢ Err Refusal.ReadFault }
 {
-    let mut text = String::new(alloc);
+    let mut sets = Vec::new(alloc);
     let mut left = files;
     for (index, name) in names.iter().enumerate() {
         let split = split_off(alloc, left, index as u32 + 1)?;
-        let engine = set_in(alloc, split.own)?;
-        print_set(&mut text, name, &engine)?;
+        let set = set_in(alloc, split.own)?;
+        sets.push(named(alloc, name, set)?)?;
         left = split.others;
     }
-    Ok(text)
+    Ok(sets)
+}
+
+fn named<D: DataSet + Drop>(alloc: Global, name: &Text, set: D) -> Result<NamedSet<D>, NoMemory>
+    ensures { IfOk result (λ named. named ≡ record { name = name.now; lists = D.lists set }) }
+{
+    Ok(NamedSet {
+        name: name.copy(alloc)?,
+        set,
+    })
 }
 
 /// The files of the set of this number, and the others.
@@ -112,14 +140,4 @@ fn path_of(alloc: Global, files: &[SetFile], fault: Fault) -> Result<Text, NoMem
         }
     }
     Ok(Text::from_vec(Vec::new(alloc)))
-}
-
-fn print_set(out: &mut String, name: &Text, set: &Engine) -> Result<(), NoMemory>
-    ensures { OnOk result (string_bytes out.new ≡ string_bytes out.old ++ set_text name.now (⟦<Engine as DataSet>⟧.lists set.now)) }
-{
-    let ids = set.ids();
-    let words = set.word_count();
-    let rules = set.rule_count();
-    write!(out, "set\t{name}\t{ids}\t{words}\t{rules}\n")?;
-    Ok(())
 }

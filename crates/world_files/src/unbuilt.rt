@@ -4,7 +4,7 @@ ghost use Rattle.mz_base.specs.Lines.{lines_of, pointed};
 ghost use Rattle.scenario.specs.Sound.{IsSound};
 ghost use Rattle.scenario.specs.declared.manifest.TheConstants.{MOST_SETS};
 ghost use Rattle.world_files.specs.Reading.{IsRefusal, Tells, UnlessFree};
-ghost use Rattle.world_files.specs.Unbuilt.{single_of, single_in, is_same, is_second, is_dictionary, is_certificates, is_unbuilt, text_fields, unbuilt_line, refused_line, manifest_refusal, or_unbuilt, manifest_served};
+ghost use Rattle.world_files.specs.Unbuilt.{single_of, single_in, is_same, is_second, is_certificates, is_unbuilt, text_fields, unbuilt_line, refused_line, manifest_refusal, or_unbuilt, manifest_served};
 
 use mz_base::{NoMemory, Refusal, Text, cut_fields, cut_lines, text_of_line};
 use scenario::{Manifest, ManifestError, manifests_are_sound, read_lines};
@@ -134,17 +134,7 @@ fn note(seen: &mut Vec<Single>, word: Option<Single>) -> Result<(), NoMemory>
 fn is_unbuilt(in_run: bool, seen: &[Single], fields: &[&str]) -> bool
     ensures { result ≡ is_unbuilt in_run seen.now (pointed fields.now) }
 {
-    is_dictionary(fields)
-        || in_run && (is_certificates(fields) || is_second(seen, single_in(fields)))
-}
-
-fn is_dictionary(fields: &[&str]) -> bool
-    ensures { result ≡ is_dictionary (pointed fields.now) }
-{
-    match fields {
-        [word, ..] => *word == "USERDICT",
-        [] => false,
-    }
+    in_run && (is_certificates(fields) || is_second(seen, single_in(fields)))
 }
 
 fn is_certificates(fields: &[&str]) -> bool

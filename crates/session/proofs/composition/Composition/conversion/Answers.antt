@@ -8,5 +8,6 @@ pub returns : goal.returns
 returns g c =
     let lists = ap g.D.DataSet.lists c.deref.ensures ∙ ap (λ inside. inside.pinned.lists) c.self-inside.view_is ∙ ap (λ (made : Composition). made.pinned.lists) c.self.view_is in
     let rows = ap g.U.UserWords.rows c.deref-2.ensures ∙ ap (λ inside. inside.pinned.rows) c.self-inside.view_is ∙ ap (λ (made : Composition). made.pinned.rows) c.self.view_is in
-    let same = conversion-is (g.D.DataSet.lists c.deref.result.now) (g.U.UserWords.rows c.deref-2.result.now) c.args.self.now c.args.key.now c.args.bounds.now lists rows c.requires.same in
+    let history = c.as_slice.ensures.value ∙ (ap (λ pairs. pairs.items) c.deref-3.ensures ∙ (ap (λ inside. inside.pinned.history) c.self-inside.view_is ∙ ap (λ (made : Composition). made.pinned.history) c.self.view_is)) in
+    let same = conversion-is (g.D.DataSet.lists c.deref.result.now) (g.U.UserWords.rows c.deref-2.result.now) c.as_slice.result.now c.args.self.now c.args.key.now c.args.bounds.now lists rows history c.requires.same in
     subst (λ (made : Conversion). IfOk c.convert.result (λ conversion. conversion ≡ made)) same c.convert.ensures
