@@ -72,15 +72,15 @@ ThirdPasses =
 abbrev pub kyouha_converted : List Command
 kyouha_converted = keys (codes "kyouha") ++ (command.Key key.Space ∷ [])
 
--- kyouha is one segment of six values
+-- kyouha is one segment of eight values, the last two of them its reading in katakana
 abbrev pub KyouhaConverts : Type 0
 KyouhaConverts =
-    line_after (keys (codes "kyouha")) (command.Key key.Space) ≡ record { word = word.Done; mode = mode.V; version = 1; result = []; rest = decimal 1 ∷ decimal 1 ∷ (today ++ wa) ∷ decimal 1 ∷ decimal 6 ∷ (today ++ wa) ∷ (capital ++ wa) ∷ (today ++ (0x8449 ∷ [])) ∷ (capital ++ (0x8449 ∷ [])) ∷ (kyou ++ wa) ∷ (kyou ++ (0x8449 ∷ [])) ∷ [] }
+    line_after (keys (codes "kyouha")) (command.Key key.Space) ≡ record { word = word.Done; mode = mode.V; version = 1; result = []; rest = decimal 1 ∷ decimal 1 ∷ (today ++ wa) ∷ decimal 1 ∷ decimal 8 ∷ (today ++ wa) ∷ (capital ++ wa) ∷ (today ++ (0x8449 ∷ [])) ∷ (capital ++ (0x8449 ∷ [])) ∷ (kyou ++ wa) ∷ (kyou ++ (0x8449 ∷ [])) ∷ (0x30AD ∷ 0x30E7 ∷ 0x30A6 ∷ 0x30CF ∷ []) ∷ (0xFF77 ∷ 0xFF6E ∷ 0xFF73 ∷ 0xFF8A ∷ []) ∷ [] }
 
 -- made narrower, it is 今日 before は
 abbrev pub KyouhaNarrows : Type 0
 KyouhaNarrows =
-    line_after kyouha_converted (command.Key key.ShiftLeft) ≡ record { word = word.Done; mode = mode.V; version = 1; result = []; rest = decimal 1 ∷ decimal 2 ∷ today ∷ wa ∷ decimal 1 ∷ decimal 3 ∷ today ∷ capital ∷ kyou ∷ [] }
+    line_after kyouha_converted (command.Key key.ShiftLeft) ≡ record { word = word.Done; mode = mode.V; version = 1; result = []; rest = decimal 1 ∷ decimal 2 ∷ today ∷ wa ∷ decimal 1 ∷ decimal 5 ∷ today ∷ capital ∷ kyou ∷ (0x30AD ∷ 0x30E7 ∷ 0x30A6 ∷ []) ∷ (0xFF77 ∷ 0xFF6E ∷ 0xFF73 ∷ []) ∷ [] }
 
 -- a character commits it, and begins anew
 abbrev pub KyouhaIsCommitted : Type 0

@@ -16,7 +16,7 @@ pub fn third_passes()
     ensures { ThirdPasses }
 {}
 
-/// kyouha is one segment of six values.
+/// kyouha is one segment of eight values.
 pub fn kyouha_converts()
     ensures { KyouhaConverts }
 {}

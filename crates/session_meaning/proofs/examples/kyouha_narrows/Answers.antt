@@ -1,6 +1,7 @@
 use Rattle.std.proofs.Common.{refl}
 use Rattle.mz_base.specs.Classes.{class_of}
 use Rattle.mz_base.specs.Data.{connection, joins, kanji_rows, places, pos_of, unknown_of, values_of, word_at}
+use Rattle.mz_base.specs.Folds.{row_of}
 use Rattle.mz_base.specs.Kana.{finish, kana}
 use Rattle.mz_base.specs.Ordered.{in_order}
 use Rattle.conversion_meaning.specs.AllPaths.{all_paths}
@@ -17,5 +18,5 @@ use Rattle.session_meaning.specs.Steps.{learned, step}
 use Rattle.session_meaning.proofs.examples.kyouha_narrows.Goals as goal
 
 pub returns : goal.returns
-unfolding entries entries_from entries_in user_entries word_entries char_entries run_entries is_run places word_at unknown_of pos_of class_of connection joins kanji_rows values_of all_paths ordinals_in paths_in_order best_path least_costs first_answer answer cut resized first_values firsts rewritten suggestions kana finish in_order step learned
+unfolding row_of entries entries_from entries_in user_entries word_entries char_entries run_entries is_run places word_at unknown_of pos_of class_of connection joins kanji_rows values_of all_paths ordinals_in paths_in_order best_path least_costs first_answer answer cut resized first_values firsts rewritten suggestions kana finish in_order step learned
 returns _ = refl
