@@ -1,0 +1,10 @@
+pub mod Deeds
+pub mod Examples
+pub mod Jobs
+pub mod Numbers
+pub mod Orders
+pub mod Plays
+pub mod Solos
+pub mod States
+pub mod Users
+pub mod Worlds
