@@ -1,2 +1,5 @@
+pub mod CertificateLemmas
 pub mod Computing
+pub mod EventKinds
+pub mod NoteLemmas
 pub mod NumberLemmas

@@ -1,6 +1,8 @@
 pub mod Deeds
 pub mod Examples
+pub mod GrowthLaws
 pub mod Jobs
+pub mod NoteLaws
 pub mod Numbers
 pub mod Orders
 pub mod Plays
