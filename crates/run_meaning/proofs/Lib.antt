@@ -1,5 +1,6 @@
 pub mod CertificateLemmas
 pub mod Computing
 pub mod EventKinds
+pub mod GrowthLemmas
 pub mod NoteLemmas
 pub mod NumberLemmas

@@ -18,7 +18,7 @@ pub noted-apply : (world : World) (s t : State) (e : Event) → apply world s e 
 noted-apply world =
     by_kind world (λ s e t. t.logs.events ≡ s.logs.events ++ e ∷ []) (λ s job o legal. refl) (λ s legal. refl) (λ s user reload legal. refl) (λ s c e deed may. noted-did world s c e deed)
 
-noted-from : (world : World) (events : List Event) (s t : State) → play_from world s events ≡ Some t → t.logs.events ≡ s.logs.events ++ events
+pub noted-from : (world : World) (events : List Event) (s t : State) → play_from world s events ≡ Some t → t.logs.events ≡ s.logs.events ++ events
 noted-from world [] s t made = ap (λ (state : State). state.logs.events) (sym (same_Some s t made)) ∙ sym (append-nil s.logs.events)
 noted-from world (e ∷ events) s t made =
     option_and_then_some (λ next. play_from world next events) (apply world s e) t made (λ next here rest. noted-from world events next t rest ∙ ap (λ noted. noted ++ events) (noted-apply world s next e here) ∙ append_assoc s.logs.events (e ∷ []) events)

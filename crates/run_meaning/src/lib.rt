@@ -4,6 +4,7 @@
 #![tactic(auto)]
 
 mod examples;
+mod growth;
 mod notes;
 mod numbers;
 
@@ -12,5 +13,6 @@ pub use examples::{
     one_client_runs, reloads_come, the_highest_reload_is_in_force, the_second_is_served_alone,
     these_are_not_legal, two_clients_run, waits_end,
 };
+pub use growth::{closed_logs_stay, logs_grow, others_are_left};
 pub use notes::{each_event_is_legal, events_are_noted};
 pub use numbers::numbers_hold;
