@@ -1,8 +1,8 @@
 -- What an event leaves as it was, and what grows.
-use Rattle.std.proofs.Common.{◌≡◌, ◌≢◌, refl, sym, ap, subst, ◌∙◌, ◌⊎◌, ⊎_elim, ℕ, zero, suc, ◌+◌, ◌<◌, ◌≤◌, Bool, true, false, List, [], ◌∷◌, ◌++◌, Option, Some, None, length, arith, append_assoc, append-nil, option_map}
+use Rattle.std.proofs.Common.{◌≡◌, ◌≢◌, refl, sym, ap, subst, ◌∙◌, inl, inr, ◌⊎◌, ⊎_elim, ℕ, zero, suc, ◌+◌, ◌<◌, ◌≤◌, Bool, true, false, List, [], ◌∷◌, ◌++◌, Some, length, arith, append_assoc, append-nil}
 use Rattle.std.specs.Prelude.{◌&&◌, ◌||◌, IsTrue, not, nat_le, nat_lt}
 use Rattle.std.specs.List.{list_all, range_with_len}
-use Rattle.std.proofs.lemmas.Bool.{and_cases, and_parts, cases_Bool, cases_eq, false≢true, leb-false, leb-true, ltb-false, ltb-true, not-true, true≢false}
+use Rattle.std.proofs.lemmas.Bool.{and_cases, and_parts, cases_eq, false≢true, leb-false, leb-true, ltb-false, ltb-true, not-true, true≢false}
 use Rattle.std.proofs.lemmas.List.{set_past}
 use Rattle.mz_base.specs.declared.event.Event.{Event}
 use Rattle.mz_base.specs.declared.event.Event.TheVariants as event
@@ -14,13 +14,12 @@ use Rattle.run_meaning.specs.Deeds.{Deed, certificate_of, done, entries_of}
 use Rattle.run_meaning.specs.GrowthLaws.{AreLogsGrown, ClosedIsFull, ClosedStays, IsFullIfClosed, IsGrown, IsStillClosed, LogsGrow, OthersAreLeft}
 use Rattle.run_meaning.specs.Jobs.{entry_after, is_logged, is_outcome, outcome_of}
 use Rattle.run_meaning.specs.Numbers.{at_number, is_number, numbers, with_number}
-use Rattle.run_meaning.specs.Plays.{apply, did, is_close_legal, is_first, is_job_legal, is_reload_legal, play, play_from, with_entries}
+use Rattle.run_meaning.specs.Plays.{apply, did, is_close_legal, is_first, is_job_legal, play_from, with_entries}
 use Rattle.run_meaning.specs.Solos.{client_of}
 use Rattle.run_meaning.specs.States.{State, client_at, is_open, journal_of, no_client_log, no_progress, no_user_log, start}
 use Rattle.run_meaning.specs.Worlds.{World, job_at, user_of}
 use Rattle.run_meaning.proofs.CertificateLemmas.{certificate-client, certified-others}
-use Rattle.run_meaning.proofs.EventKinds.{IsDeed, MayCome, after_close, after_job, after_reload, awaiting, by_kind, ending, finding_none, kept_by_play, learning, stepping, taking}
-use Rattle.run_meaning.proofs.NoteLemmas.{noted-from}
+use Rattle.run_meaning.proofs.EventKinds.{IsDeed, after_close, after_job, after_reload, awaiting, by_kind, ending, finding_none, kept_by_play, learning, stepping, taking}
 use Rattle.run_meaning.proofs.NumberLemmas.{others, written}
 
 -- ---- Other clients
@@ -74,27 +73,34 @@ unwritten items zero item past = refl
 unwritten items (suc place) item past =
     set_past items place item (⊎_elim (λ low. absurd (let at : suc place ≤ 0 = ltb-false 0 (suc place) low in omega (arith, at))) (λ high. let over : length items < suc place = leb-false (suc place) (length items) high in omega (arith, over)) (and_cases (nat_lt 0 (suc place)) (nat_le (suc place) (length items)) past))
 
-abbrev entries_at : List UserLog → ℕ → List UserEntry
+abbrev pub entries_at : List UserLog → ℕ → List UserEntry
 entries_at users user = (at_number no_user_log users user).entries
 
--- a journal with further entries
-pub grown-entries : (users : List UserLog) (user : ℕ) (entries : List UserEntry) (other : ℕ) → IsGrown (entries_at users other) (entries_at (with_entries users user entries) other)
-grown-entries users user [] other = grown-refl (entries_at users other)
-grown-entries users user (first ∷ more) other = ⊎_elim here there (cases_eq user other)
+-- a journal after further entries of a user: as it was, or, of this user, with these
+abbrev pub IsWith : List UserLog → List UserLog → ℕ → List UserEntry → ℕ → Type 0
+IsWith users after user entries other =
+    (entries_at after other ≡ entries_at users other) ⊎ ((user ≡ other) × (entries_at after other ≡ entries_at users other ++ entries))
+
+pub entries-with : (users : List UserLog) (user : ℕ) (entries : List UserEntry) (other : ℕ) → IsWith users (with_entries users user entries) user entries other
+entries-with users user [] other = inl refl
+entries-with users user (first ∷ more) other = ⊎_elim here there (cases_eq user other)
   where
     new : UserLog
     new = record (at_number no_user_log users user) { entries = entries_at users user ++ first ∷ more }
 
-    by_number : (b : Bool) → is_number users user ≡ b → IsGrown (entries_at users user) (entries_at (with_number users user new) user)
-    by_number true is = (first ∷ more, ap (λ (log : UserLog). log.entries) (written no_user_log users user new is))
-    by_number false is = ([], ap (λ us. entries_at us user) (unwritten users user new is) ∙ sym (append-nil (entries_at users user)))
+    by_number : (b : Bool) → is_number users user ≡ b → IsWith users (with_number users user new) user (first ∷ more) user
+    by_number true is = inr (refl, ap (λ (log : UserLog). log.entries) (written no_user_log users user new is))
+    by_number false is = inl (ap (λ us. entries_at us user) (unwritten users user new is))
 
-    here : user ≡ other → IsGrown (entries_at users other) (entries_at (with_number users user new) other)
-    here same = subst (λ n. IsGrown (entries_at users n) (entries_at (with_number users user new) n)) same (by_number (is_number users user) refl)
+    here : user ≡ other → IsWith users (with_number users user new) user (first ∷ more) other
+    here same = subst (IsWith users (with_number users user new) user (first ∷ more)) same (by_number (is_number users user) refl)
 
-    there : (user ≡ other → ⊥) → IsGrown (entries_at users other) (entries_at (with_number users user new) other)
-    there apart = ([], ap (λ (log : UserLog). log.entries) (others no_user_log users user other new apart) ∙ sym (append-nil (entries_at users other)))
+    there : (user ≡ other → ⊥) → IsWith users (with_number users user new) user (first ∷ more) other
+    there apart = inl (ap (λ (log : UserLog). log.entries) (others no_user_log users user other new apart))
 
+grown-entries : (users : List UserLog) (user : ℕ) (entries : List UserEntry) (other : ℕ) → IsGrown (entries_at users other) (entries_at (with_entries users user entries) other)
+grown-entries users user entries other =
+    ⊎_elim (λ same. ([], same ∙ sym (append-nil (entries_at users other)))) (λ more. (entries, more.1)) (entries-with users user entries other)
 
 grown-job : (world : World) (s : State) (job : ℕ) (o : Outcome) → AreLogsGrown s (after_job world s job o)
 unfolding journal_of

@@ -1,5 +1,5 @@
 -- What is noted of events, and which lists of them are legal.
-use Rattle.std.specs.Prelude.{◌≡◌, List, [], ◌∷◌, ◌++◌, Option, Some, option_and_then}
+use Rattle.std.specs.Prelude.{◌≡◌, List, [], ◌∷◌, ◌++◌, Some, option_and_then}
 use Rattle.mz_base.specs.declared.event.Event.{Event}
 use Rattle.run_meaning.specs.Plays.{apply, play}
 use Rattle.run_meaning.specs.States.{State, start}
