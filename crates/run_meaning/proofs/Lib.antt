@@ -1,4 +1,5 @@
 pub mod CertificateLemmas
+pub mod ClientLemmas
 pub mod Computing
 pub mod EventKinds
 pub mod GrowthLemmas

@@ -1,7 +1,8 @@
 -- What an event leaves as it was, and what grows.
-use Rattle.std.specs.Prelude.{◌≡◌, ◌≢◌, ℕ, IsTrue, List, ◌++◌, Some, length}
+use Rattle.std.specs.Prelude.{◌≡◌, ◌≢◌, ℕ, ◌<◌, IsTrue, List, ◌++◌, Some, length}
 use Rattle.std.specs.List.{list_all}
 use Rattle.mz_base.specs.declared.event.Event.{Event}
+use Rattle.run_meaning.specs.Deeds.{Deed, done, may}
 use Rattle.run_meaning.specs.Jobs.{is_logged}
 use Rattle.run_meaning.specs.Numbers.{numbers}
 use Rattle.run_meaning.specs.Plays.{apply, play, play_from}
@@ -13,6 +14,16 @@ use Rattle.run_meaning.specs.Worlds.{World}
 abbrev pub OthersAreLeft : Type 0
 OthersAreLeft =
     (world : World) (s t : State) (e : Event) (c : ℕ) → apply world s e ≡ Some t → client_of e ≢ c → client_at t c ≡ client_at s c
+
+-- What an event makes of its own client: a deed that may come was done.
+pub record IsDone (s t : State) (e : Event) (c : ℕ) : Type 0 where
+  pub deed : Deed
+  pub may_come : IsTrue (may (client_at s c) deed)
+  pub made : client_at t c ≡ done (client_at s c) e deed
+
+abbrev pub OwnIsDone : Type 0
+OwnIsDone =
+    (world : World) (events : List Event) (s t : State) (e : Event) → play world events ≡ Some s → apply world s e ≡ Some t → 0 < client_of e → IsDone s t e (client_of e)
 
 -- a list is another with more after it
 abbrev pub IsGrown : {A : Type 0} → List A → List A → Type 0

@@ -14,7 +14,7 @@ pub use examples::{
     one_client_runs, reloads_come, the_highest_reload_is_in_force, the_second_is_served_alone,
     these_are_not_legal, two_clients_run, waits_end,
 };
-pub use growth::{closed_logs_stay, logs_grow, others_are_left};
+pub use growth::{closed_logs_stay, logs_grow, others_are_left, own_deeds_are_done};
 pub use log::{each_comes_once, newest_is_highest, published_jobs_rise};
 pub use notes::{each_event_is_legal, events_are_noted};
 pub use numbers::numbers_hold;
