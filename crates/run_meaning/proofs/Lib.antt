@@ -1,0 +1,9 @@
+pub mod CertificateLemmas
+pub mod ClientLemmas
+pub mod Computing
+pub mod EventKinds
+pub mod GrowthLemmas
+pub mod LogAnswers
+pub mod LogLemmas
+pub mod NoteLemmas
+pub mod NumberLemmas

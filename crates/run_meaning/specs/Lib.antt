@@ -1,0 +1,13 @@
+pub mod Deeds
+pub mod Examples
+pub mod GrowthLaws
+pub mod Jobs
+pub mod LogLaws
+pub mod NoteLaws
+pub mod Numbers
+pub mod Orders
+pub mod Plays
+pub mod Solos
+pub mod States
+pub mod Users
+pub mod Worlds

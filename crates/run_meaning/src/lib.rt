@@ -1,0 +1,20 @@
+//! What a run means: events, when each is legal, what lists of them make, the order of a run, and what one client alone
+//! sees. specs/ has the definitions, and each function here is a law of them, which its clause states. Start at
+//! specs/Plays.antt.
+#![tactic(auto)]
+
+mod examples;
+mod growth;
+mod log;
+mod notes;
+mod numbers;
+
+pub use examples::{
+    a_conversion_is_certified, a_late_job_is_skipped, a_take_has_the_learns_before_it,
+    one_client_runs, reloads_come, the_highest_reload_is_in_force, the_second_is_served_alone,
+    these_are_not_legal, two_clients_run, waits_end,
+};
+pub use growth::{closed_logs_stay, logs_grow, others_are_left, own_deeds_are_done};
+pub use log::{each_comes_once, newest_is_highest, published_jobs_rise};
+pub use notes::{each_event_is_legal, events_are_noted};
+pub use numbers::numbers_hold;
