@@ -23,8 +23,11 @@ IsWordField row = IsField row.word
 abbrev AreWordFields : Taken → Type 0
 AreWordFields taken = All IsWordField taken.rows
 
+abbrev given : Taken → Result Taken ImportError
+given taken = Ok taken
+
 -- what is taken further has such words alone
-same-taken : (taken next : Taken) → AreWordFields taken → Ok {A = Taken} {E = ImportError} taken ≡ Ok next → AreWordFields next
+same-taken : (taken next : Taken) → AreWordFields taken → given taken ≡ Ok next → AreWordFields next
 same-taken taken next are is = let same : taken ≡ next = cc in subst AreWordFields same are
 
 new-taken : (taken : Taken) (row : UserRow) (next : Taken) → IsWordField row → AreWordFields taken → take_new taken row ≡ Ok next → AreWordFields next

@@ -1,5 +1,5 @@
 -- The characters of a field of a line are fields of a report.
-use Rattle.std.proofs.Common.{◌≡◌, ℕ, ◌-◌, Bool, true, false, eqb, List, [], ◌∷◌, ◌++◌, length, map, take, if◌then◌else◌, slice_index, slice_index_or, get_or, refl, sym, subst, ap, inl, inr, encode_utf8, encode_utf8_all}
+use Rattle.std.proofs.Common.{◌≡◌, ◌≢◌, ℕ, zero, suc, ◌-◌, Bool, true, false, eqb, List, [], ◌∷◌, ◌++◌, length, map, take, if◌then◌else◌, slice_index, slice_index_or, get_or, refl, sym, subst, ap, inl, inr, encode_utf8, encode_utf8_all}
 use Rattle.std.specs.List.{All, AllByRecursion, onto_first, slice_split, starts_with}
 use Rattle.std.specs.Str.{chars, is_utf8, IsUtf8}
 use Rattle.std.specs.Str.Lines.{strip_carriage_return}
@@ -25,7 +25,7 @@ module _ (Before After : ℕ → Type 0) (p : ℕ → Bool) (kept : (b : ℕ) �
   parts-All (b ∷ bytes) all =
       elim (cases_Bool (p b)) [
         | inl cut ↦ subst (AllByRecursion (AllByRecursion After)) (sym (slice_split-cons_yes p b bytes cut)) (tt, parts-All bytes all.1)
-        | inr no ↦ subst (AllByRecursion (AllByRecursion After)) (sym (slice_split-cons_no p b bytes no)) (with_first b (slice_split p bytes) (kept b all.0 no) (parts-All bytes all.1))
+        | inr other ↦ subst (AllByRecursion (AllByRecursion After)) (sym (slice_split-cons_no p b bytes other)) (with_first b (slice_split p bytes) (kept b all.0 other) (parts-All bytes all.1))
       ]
 
 -- ---- Lines
@@ -36,7 +36,7 @@ IsNoFeed b = eqb b 10 ≡ false
 abbrev pub AreNoFeeds : List ℕ → Type 0
 AreNoFeeds line = AllByRecursion IsNoFeed line
 
-any-bytes : (bytes : List ℕ) → AllByRecursion (λ b. ⊤) bytes
+any-bytes : (bytes : List ℕ) → AllByRecursion (λ b. Unit {0}) bytes
 any-bytes [] = tt
 any-bytes (b ∷ bytes) = (tt, any-bytes bytes)
 
@@ -67,7 +67,7 @@ lines-no_feeds bytes =
     by_test true = tt
     by_test false =
         let text = without_last_feed (without_mark bytes) in
-        all-stripped (slice_split (λ b. eqb b 10) text) (parts-All (λ b. ⊤) IsNoFeed (λ b. eqb b 10) (λ b here no. no) text (any-bytes text))
+        all-stripped (slice_split (λ b. eqb b 10) text) (parts-All (λ b. Unit {0}) IsNoFeed (λ b. eqb b 10) (λ b here other. other) text (any-bytes text))
 
 -- ---- Fields
 
@@ -79,7 +79,7 @@ AreFieldBytes bytes = AllByRecursion IsFieldByte bytes
 
 fields-bytes : (line : List ℕ) → AreNoFeeds line → AllByRecursion AreFieldBytes (fields_of line)
 fields-bytes line all =
-    parts-All IsNoFeed IsFieldByte (λ b. eqb b 9) (λ b feed no. (no, feed)) line all
+    parts-All IsNoFeed IsFieldByte (λ b. eqb b 9) (λ b feed other. (other, feed)) line all
 
 All-behind : {A : Type 0} (P : A → Type 0) (xs ys : List A) → AllByRecursion P (xs ++ ys) → AllByRecursion P ys
 All-behind P [] ys all = all

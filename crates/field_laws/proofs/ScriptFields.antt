@@ -74,14 +74,19 @@ key-gives name = by_key (key_of name) refl
 
 -- ---- Lines
 
-choice-gives : (b : Bool) (first second : Option (List Command)) → Gives first → Gives second → Gives (if b then first else second)
-choice-gives true first second left right = left
-choice-gives false first second left right = right
-
 spelled-gives : (word text : List ℕ) → Gives (spelled word text)
 unfolding spelled
 spelled-gives word text =
-    choice-gives _ _ _ (keys-give text) (choice-gives _ _ _ (key-gives text) (choice-gives _ _ _ (some-gives _ (one-are (command.ExpectPreedit text) tt)) (choice-gives _ _ _ (some-gives _ (one-are (command.ExpectResult text) tt)) none-gives)))
+    by_tests (bytes_eq word (codes "SEND_KEYS")) (bytes_eq word (codes "SEND_KEY")) (bytes_eq word (codes "EXPECT_PREEDIT")) (bytes_eq word (codes "EXPECT_RESULT"))
+  where
+    by_tests : (a b c d : Bool) → Gives (if a then keys_of text else (if b then option_map one (pressed (key_of text)) else (if c then Some (one (command.ExpectPreedit text)) else (if d then Some (one (command.ExpectResult text)) else None))))
+    by_tests true b c d = keys-give text
+    by_tests false true c d = key-gives text
+    by_tests false false true d =
+        some-gives (one (command.ExpectPreedit text)) (one-are (command.ExpectPreedit text) tt)
+    by_tests false false false true =
+        some-gives (one (command.ExpectResult text)) (one-are (command.ExpectResult text) tt)
+    by_tests false false false false = none-gives
 
 number-gives : (make : ℕ → Command) → ((n : ℕ) → IsCommandField (make n)) → (number : Option ℕ) → Gives (option_map one (option_map make number))
 number-gives make is None = none-gives
@@ -90,12 +95,25 @@ number-gives make is (Some n) = some-gives (one (make n)) (one-are (make n) (is 
 field-gives : (word field : List ℕ) → Gives (with_field word field)
 unfolding with_field
 field-gives word field =
-    choice-gives _ _ _ (number-gives (λ n. command.Select n) (λ n. tt) (number_in field)) (choice-gives _ _ _ (number-gives (λ n. command.Await n) (λ n. tt) (number_in field)) (spelled-gives word (chars field)))
+    by_tests (bytes_eq word (codes "SELECT")) (bytes_eq word (codes "AWAIT"))
+  where
+    by_tests : (a b : Bool) → Gives (if a then option_map one (option_map (λ n. command.Select n) (number_in field)) else (if b then option_map one (option_map (λ n. command.Await n) (number_in field)) else spelled word (chars field)))
+    by_tests true b = number-gives (λ n. command.Select n) (λ n. tt) (number_in field)
+    by_tests false true = number-gives (λ n. command.Await n) (λ n. tt) (number_in field)
+    by_tests false false = spelled-gives word (chars field)
 
 alone-gives : (word : List ℕ) → Gives (alone word)
 unfolding alone
 alone-gives word =
-    choice-gives _ _ _ (some-gives _ (one-are command.Reset tt)) (choice-gives _ _ _ (some-gives _ (one-are (command.ExpectPreedit []) tt)) (choice-gives _ _ _ (some-gives _ (one-are (command.ExpectResult []) tt)) none-gives))
+    by_tests (bytes_eq word (codes "RESET")) (bytes_eq word (codes "EXPECT_PREEDIT")) (bytes_eq word (codes "EXPECT_RESULT"))
+  where
+    by_tests : (a b c : Bool) → Gives (if a then Some (one command.Reset) else (if b then Some (one (command.ExpectPreedit [])) else (if c then Some (one (command.ExpectResult [])) else None)))
+    by_tests true b c = some-gives (one command.Reset) (one-are command.Reset tt)
+    by_tests false true c =
+        some-gives (one (command.ExpectPreedit [])) (one-are (command.ExpectPreedit []) tt)
+    by_tests false false true =
+        some-gives (one (command.ExpectResult [])) (one-are (command.ExpectResult []) tt)
+    by_tests false false false = none-gives
 
 fields-give : (fields : List (List ℕ)) → Gives (commands_in fields)
 fields-give [] = none-gives
@@ -108,9 +126,11 @@ unfolding commands_of
 line-gives line =
     by_text (is_utf8 line)
   where
+    by_skip : (b : Bool) → Gives (if b then Some [] else commands_in (fields_of line))
+    by_skip true = some-gives [] (All-nil IsCommandField)
+    by_skip false = fields-give (fields_of line)
     by_text : (b : Bool) → Gives (if not b then None else (if is_skipped line then Some [] else commands_in (fields_of line)))
-    by_text true =
-        choice-gives (is_skipped line) (Some []) (commands_in (fields_of line)) (some-gives [] (All-nil IsCommandField)) (fields-give (fields_of line))
+    by_text true = by_skip (is_skipped line)
     by_text false = none-gives
 
 -- ---- The whole script

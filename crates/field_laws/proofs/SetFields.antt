@@ -47,10 +47,13 @@ module _ {Row : Type 0} (P : Row → Type 0) (read : List Row → ℕ → List �
   file-rows_have before bytes all had is =
       rows-have before 1 (lines_of bytes) all (lines-no_feeds bytes) had is
 
-none-has : {Row : Type 0} (P : Row → Type 0) (row : Option Row) → Ok {A = Option Row} {E = FaultKind} None ≡ Ok row → All P (option_to_list row)
+abbrev read_as : {Row : Type 0} → Option Row → Result (Option Row) FaultKind
+read_as row = Ok row
+
+none-has : {Row : Type 0} (P : Row → Type 0) (row : Option Row) → read_as None ≡ Ok row → All P (option_to_list row)
 none-has P row is = let same : None ≡ row = cc in subst (λ row. All P (option_to_list row)) same (All-nil P)
 
-one-has : {Row : Type 0} (P : Row → Type 0) (made : Row) (row : Option Row) → P made → Ok {A = Option Row} {E = FaultKind} (Some made) ≡ Ok row → All P (option_to_list row)
+one-has : {Row : Type 0} (P : Row → Type 0) (made : Row) (row : Option Row) → P made → read_as (Some made) ≡ Ok row → All P (option_to_list row)
 one-has P made row has is =
     let same : Some made ≡ row = cc in
     subst (λ row. All P (option_to_list row)) same (All-cons P made [] has (All-nil P))
@@ -131,19 +134,21 @@ value-has number (Some fields) row parts given =
       ]
     ]
 
+kept-has : (rows : List ValueRow) (number : ℕ) (found : Result ValueRow FaultKind) (row : Option ValueRow) → ((kept : ValueRow) → found ≡ Ok kept → IsValueField kept) → (found >>= (λ kept. if nat_le MOST_ROWS (length rows) then Err (Limit number) else Ok (Some kept))) ≡ Ok row → All IsValueField (option_to_list row)
+kept-has rows number (Err kind) row has given = absurd cc
+kept-has rows number (Ok kept) row has given =
+    elim (cases_Bool (nat_le MOST_ROWS (length rows))) [
+      | inl many ↦ let never : Err (Limit number) ≡ Ok row = rw many at given in absurd cc
+      | inr few ↦ one-has IsValueField kept row (has kept refl) (rw few at given)
+    ]
+
 value-line : (rows : List ValueRow) (number : ℕ) (line : List ℕ) (row : Option ValueRow) → AreNoFeeds line → table_row value_in rows number line ≡ Ok row → All IsValueField (option_to_list row)
 unfolding table_row
 value-line rows number line row plain given =
     elim (cases_Bool (is_utf8 line)) [
       | inl text ↦ elim (cases_Bool (eqb (length line) 0)) [
         | inl empty ↦ none-has IsValueField row (rw (text, empty) at given)
-        | inr some ↦
-            let (kept, read, rest) = part_gave (value_in number line) (λ kept. if nat_le MOST_ROWS (length rows) then Err (Limit number) else Ok (Some kept)) row (rw (text, some) at given) in
-            let has = value-has number (value_fields (fields_of line)) kept (value-parts (fields_of line) (fields-parts line text plain)) read in
-            elim (cases_Bool (nat_le MOST_ROWS (length rows))) [
-              | inl many ↦ let never : Err (Limit number) ≡ Ok row = rw many at rest in absurd cc
-              | inr few ↦ one-has IsValueField kept row has (rw few at rest)
-            ]
+        | inr some ↦ kept-has rows number (value_in number line) row (λ kept. value-has number (value_fields (fields_of line)) kept (value-parts (fields_of line) (fields-parts line text plain))) (rw (text, some) at given)
       ]
       | inr bytes ↦ let never : Err (NotUtf8 number) ≡ Ok row = rw bytes at given in absurd cc
     ]
@@ -205,6 +210,10 @@ bytes-have P role missing read None value stands each given =
 bytes-have P role missing read (Some bytes) value stands each given =
     each bytes value (in_file-Ok role 1 (read bytes) value given)
 
+same-fields : (lists given : DataLists) (answer : Result DataLists Fault) → answer ≡ Ok lists → answer ≡ Ok given → AreListsFields lists → AreListsFields given
+same-fields lists given answer is other fields =
+    let same : lists ≡ given = cc in subst AreListsFields same fields
+
 pub sets-are_fields : SetsAreFields
 unfolding data_of
 sets-are_fields files given is =
@@ -218,8 +227,7 @@ sets-are_fields files given is =
     let (symbols, symbols_is, after_symbols) = part_gave (symbols_given files) _ given after_words in
     let (kanji, kanji_is, after_kanji) = part_gave (kanji_given files) _ given after_symbols in
     let made : DataLists = record { ids = table.size; costs = table.costs; features = features; unknown = unknown; joins = joins; pos = names; rules = rows; words = all; symbols = symbols; kanji = kanji } in
-    let same : made ≡ given = cc in
-    subst AreListsFields same (record {
+    same-fields made given (Ok made) refl after_kanji (record {
       rules = bytes-have (All IsRuleField) Romaji [] rules.romaji_rows (bytes_of Romaji files) rows (All-nil IsRuleField) rules-are rules_is;
       words = words-are table.size [] 1 _ all (All-nil IsWordField) words_is;
       symbols = bytes-have (All IsValueField) Symbol [] value_rows (bytes_of Symbol files) symbols (All-nil IsValueField) values-are symbols_is;
