@@ -129,6 +129,7 @@ line-gives line =
     by_skip : (b : Bool) → Gives (if b then Some [] else commands_in (fields_of line))
     by_skip true = some-gives [] (All-nil IsCommandField)
     by_skip false = fields-give (fields_of line)
+
     by_text : (b : Bool) → Gives (if not b then None else (if is_skipped line then Some [] else commands_in (fields_of line)))
     by_text true = by_skip (is_skipped line)
     by_text false = none-gives
