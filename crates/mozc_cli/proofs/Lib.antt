@@ -1,3 +1,4 @@
+pub mod Entered
 pub mod KeyAnswers
 pub mod Runs
 pub mod Settling
