@@ -71,9 +71,9 @@ limited output = if nat_lt MOST_REPORT_BYTES (length output.text) then Err (refu
 abbrev pub run_meant : Files → List ℕ → Result Output Refusal
 run_meant files name = world files name >>= (λ world. limited (run_output world))
 
--- what checking a manifest gives: the listing of its data sets
+-- what checking a manifest gives: the listing of its data sets and its users' dictionaries
 abbrev pub check_meant : Files → List ℕ → Result Output Refusal
-check_meant files name = listing files name >>= (λ text. limited (list_output text))
+check_meant files name = listing files name >>= (λ text. Ok (list_output text))
 
 -- what the text of a key's answer gives, by a data set with no user words and no history
 abbrev pub answered : List ℕ → List ℕ → DataLists → Result Output Refusal

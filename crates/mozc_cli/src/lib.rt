@@ -5,6 +5,7 @@
 
 mod args;
 mod command;
+mod data;
 mod laws;
 mod numbers;
 mod outputs;
@@ -17,7 +18,6 @@ mod verdict;
 pub use args::Request;
 pub use command::local;
 pub use laws::{limits_are, run_order_is_complete};
-pub use numbers::{FIRST_CLIENT, FIRST_JOB, FIRST_USER};
+pub use numbers::{FIRST_CLIENT, FIRST_JOB, FIRST_RELOAD, FIRST_USER};
 pub use outputs::Output;
 pub use program::{Action, Ending, Told, action_for, ending_of, tell};
-pub use service::Service;

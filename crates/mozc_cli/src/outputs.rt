@@ -4,7 +4,7 @@ ghost use Rattle.std.specs.String.{string_bytes};
 ghost use Rattle.conversion_meaning.specs.Lattices.{AreBounds, IsKey};
 ghost use Rattle.report.specs.Names.{AreNamed};
 ghost use Rattle.report.specs.Texts.{report_text};
-ghost use Rattle.world_files.specs.Loaded.{HasUser, world_of};
+ghost use Rattle.world_files.specs.Loaded.{HasFewReloads, HasUser, world_of};
 ghost use Rattle.world_files.specs.Queries.{query_set, query_claim};
 ghost use Rattle.world_files.specs.Reading.{Files, Reads, Tells};
 ghost use Rattle.mozc_cli.specs.Args.{IsFit};
@@ -57,6 +57,7 @@ fn report_in<S: Store>(alloc: Global, store: &mut S, name: &Name<'_>) -> Result<
 
 fn report_in_limit(alloc: Global, world: Loaded) -> Result<Output, Refusal>
     requires user { HasUser world }
+    requires few { HasFewReloads world }
     ensures told { Tells shown result (limited (run_output (world_of world (⟦<Engine as DataSet>⟧.lists world.set)))) }
     ensures reads_nothing { result ≢ Err Refusal.ReadFault }
 {
@@ -86,7 +87,10 @@ fn listing_in<S: Store>(alloc: Global, store: &mut S, name: &Name<'_>) -> Result
 {
     let name = name.to_text(alloc)?;
     let text = read_listing(alloc, store, &name)?;
-    listed(text)
+    Ok(Output {
+        text: text.into_bytes(),
+        unmet: false,
+    })
 }
 
 fn conversion_in<S: Store>(
