@@ -153,5 +153,9 @@ fn user_logs(
 fn notes_of(alloc: Global, reloads: &[Reload]) -> Result<Vec<DictNote>, NoMemory>
     ensures { IfOk result (λ notes. notes.items ≡ map note_of reloads.now) }
 {
-    Ok(reloads.iter().map(|reload| reload.note()).collect(alloc)?)
+    let mut notes = Vec::new(alloc);
+    for reload in reloads {
+        notes.push(reload.note())?;
+    }
+    Ok(notes)
 }
