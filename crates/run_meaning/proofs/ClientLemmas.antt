@@ -1,20 +1,19 @@
 -- What a deed makes of its own client in a state.
-use Rattle.std.proofs.Common.{◌≡◌, refl, sym, ap, subst, ◌∙◌, ℕ, suc, ◌<◌, ◌++◌, Bool, true, false, List, [], ◌∷◌, Option, Some, None, length, map, option_map, arith}
+use Rattle.std.proofs.Common.{◌≡◌, refl, sym, ap, subst, ◌∙◌, ℕ, suc, ◌<◌, ◌++◌, true, List, [], ◌∷◌, Option, Some, None, length, map, option_map, arith}
 use Rattle.std.specs.Prelude.{◌&&◌, IsTrue, nat_le, nat_lt}
 use Rattle.mz_base.specs.declared.event.Event.{Event}
-use Rattle.mz_base.specs.declared.event.Outcome.{Outcome}
 use Rattle.mz_base.specs.declared.logs.CertEntry.{CertEntry}
 use Rattle.keys.specs.declared.command.Command.{Command}
 use Rattle.session_meaning.specs.Steps.{step}
 use Rattle.run_meaning.specs.Deeds.{Deed, Awaits, Ends, FindsNone, Learns, Steps, Takes, certificate_of, certified_by, does, done, over, stepped, with_certificate}
 use Rattle.run_meaning.specs.GrowthLaws.{IsDone, OwnIsDone}
 use Rattle.run_meaning.specs.Numbers.{is_number}
-use Rattle.run_meaning.specs.Plays.{apply, certificates_with, certified, did, play, play_from}
+use Rattle.run_meaning.specs.Plays.{apply, certificates_with, certified, did, play}
 use Rattle.run_meaning.specs.Solos.{client_of}
 use Rattle.run_meaning.specs.States.{Client, State, begun_with, certificates_of, client_at, client_log, no_client_log, no_progress, start}
 use Rattle.run_meaning.specs.Worlds.{ClientPlan, World}
 use Rattle.run_meaning.proofs.CertificateLemmas.{certificate-client, own-certificates}
-use Rattle.run_meaning.proofs.EventKinds.{MayCome, by_kind, kept_by_play}
+use Rattle.run_meaning.proofs.EventKinds.{by_kind, kept_by_play}
 use Rattle.run_meaning.proofs.GrowthLemmas.{client-is}
 use Rattle.run_meaning.proofs.NumberLemmas.{count, written}
 

@@ -42,15 +42,15 @@ others-did world s c other e deed apart =
     let certificates = certified-others other s.logs.certificates (certificate_of client deed) (λ m is same. apart (sym (certificate-client client deed m is) ∙ same)) in
     λ i. record { number = other; progress = progress i; log = log i; certificates = certificates i }
 
-left-job : (world : World) (s : State) (job : ℕ) (o : Outcome) (c : ℕ) → client_at (after_job world s job o) c ≡ client_at s c
+pub left-job : (world : World) (s : State) (job : ℕ) (o : Outcome) (c : ℕ) → client_at (after_job world s job o) c ≡ client_at s c
 unfolding client_at
 left-job world s job o c = refl
 
-left-close : (s : State) (c : ℕ) → client_at (after_close s) c ≡ client_at s c
+pub left-close : (s : State) (c : ℕ) → client_at (after_close s) c ≡ client_at s c
 unfolding client_at
 left-close s c = refl
 
-left-reload : (s : State) (user reload c : ℕ) → client_at (after_reload s user reload) c ≡ client_at s c
+pub left-reload : (s : State) (user reload c : ℕ) → client_at (after_reload s user reload) c ≡ client_at s c
 unfolding client_at
 left-reload s user reload c = refl
 

@@ -7,3 +7,4 @@ pub mod LogAnswers
 pub mod LogLemmas
 pub mod NoteLemmas
 pub mod NumberLemmas
+pub mod SoloLemmas

@@ -7,6 +7,7 @@ pub mod NoteLaws
 pub mod Numbers
 pub mod Orders
 pub mod Plays
+pub mod SoloLaws
 pub mod Solos
 pub mod States
 pub mod Users

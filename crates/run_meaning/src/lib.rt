@@ -8,6 +8,7 @@ mod growth;
 mod log;
 mod notes;
 mod numbers;
+mod solo;
 
 pub use examples::{
     a_conversion_is_certified, a_late_job_is_skipped, a_take_has_the_learns_before_it,
@@ -18,3 +19,4 @@ pub use growth::{closed_logs_stay, logs_grow, others_are_left, own_deeds_are_don
 pub use log::{each_comes_once, newest_is_highest, published_jobs_rise};
 pub use notes::{each_event_is_legal, events_are_noted};
 pub use numbers::numbers_hold;
+pub use solo::clients_are_alone;
