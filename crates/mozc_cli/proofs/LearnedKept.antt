@@ -23,7 +23,7 @@ learns-more : (journal : List UserEntry) (client seq : ℕ) (pairs : List Pair) 
 learns-more journal client seq pairs =
     sum_by-append (λ (e : UserEntry). cond (is_learn e) 1 0) journal (entry.Learn client seq pairs ∷ [])
 
-pub learned-kept : {D : Type 0} (reloads : List Reload) (before after : Service D) (client seq : ℕ) (pairs : List Pair) → IsKept reloads before → after.history.items ≡ learn before.history.items pairs → after.shared ≡ None → after.learns ≡ before.learns + 1 → after.words ≡ before.words → after.journal.items ≡ before.journal.items ++ entry.Learn client seq pairs ∷ [] → IsKept reloads after
+pub learned-kept : {D : Type 0} (reloads : List Reload) (before after : Service D) (client seq : ℕ) (pairs : List Pair) → IsKept reloads before → after.history ≡ learn before.history pairs → after.shared ≡ None → after.learns ≡ before.learns + 1 → after.words ≡ before.words → after.journal.items ≡ before.journal.items ++ entry.Learn client seq pairs ∷ [] → IsKept reloads after
 learned-kept reloads before after client seq pairs kept history none learns words journal =
     let e = entry.Learn client seq pairs in
     record {

@@ -14,8 +14,8 @@ progress_of s =
 -- the history is what the journal makes, and so is the shared one, where there is one; the learns are counted, and the words are
 -- those in force
 pub record IsKept {D : Type 0} (reloads : List Reload) (s : Service D) : Type 0 where
-  pub history : s.history.items ≡ history_of s.journal.items
-  pub shared : IfSome s.shared (λ shared. (arc_value shared).items ≡ s.history.items)
+  pub history : s.history ≡ history_of s.journal.items
+  pub shared : IfSome s.shared (λ shared. (arc_value shared).items ≡ s.history)
   pub learns : s.learns ≡ learns_in s.journal.items
   pub words : (taken_in (arc_value s.words)).rows ≡ rows_in reloads s.journal.items
 
@@ -30,5 +30,5 @@ pub record IsBesideSame {D : Type 0} (before after : Service D) : Type 0 where
 pub record IsFresh {D : Type 0} (rows : List UserRow) (s : Service D) : Type 0 where
   pub learns : s.learns ≡ 0
   pub words : (taken_in (arc_value s.words)).rows ≡ rows
-  pub history : s.history.items ≡ []
+  pub history : s.history ≡ []
   pub shared : s.shared ≡ None

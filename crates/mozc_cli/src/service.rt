@@ -1,6 +1,5 @@
-ghost use Rattle.std.specs.Prelude.{◌≡◌, ◌≤◌, ◌+◌, ◌∷◌, [], List, IfOk, OnOk, drop, filter, length, not, true};
+ghost use Rattle.std.specs.Prelude.{◌≡◌, ◌≤◌, ◌+◌, ◌∷◌, [], List, IfOk, OnOk, drop, length, true};
 ghost use Rattle.std.specs.Arc.{arc_value};
-ghost use Rattle.session_meaning.specs.History.{is_pair, learn, with_learned};
 ghost use Rattle.mozc_cli.specs.Core.{begun, carried, ended_in, entered_from, entered_in, job_published, learned_in, noted, pinned_by, rows_given, stepped_in, taken_in};
 ghost use Rattle.mozc_cli.specs.Services.{IsBesideSame, IsFresh, IsKept, progress_of};
 ghost use Rattle.mozc_cli.specs.declared.numbers.TheConstants.{FIRST_RELOAD};
@@ -10,10 +9,10 @@ ghost use Rattle.world_files.specs.Reloads.{Reload};
 
 use crate::data::Data;
 use crate::numbers::{FIRST_CLIENT, FIRST_JOB, FIRST_RELOAD, FIRST_USER};
+use history::History;
 use keys::Command;
 use mz_base::{DataSet, Event, Line, NoMemory, Outcome, Own, Pair, Seq, UserEntry};
 use session::{Need, Pinned, Session};
-use session_meaning::MOST_PAIRS;
 use std::alloc::Global;
 use std::sync::Arc;
 use user_dict::UserDict;
@@ -31,8 +30,8 @@ pub struct Service<D: DataSet> {
     learns: u64,
     /// The user's dictionary in force.
     words: Arc<UserDict>,
-    /// What the journal makes of the history, the newest pair first.
-    history: Vec<Pair>,
+    /// What the journal makes of the history.
+    history: History,
     /// The same, shared, where data were taken since the last learn.
     shared: Option<Arc<Vec<Pair>>>,
 }
@@ -77,7 +76,7 @@ impl<D: DataSet + Drop> Service<D> {
             events,
             learns: 0,
             words,
-            history: Vec::new(alloc),
+            history: History::new(alloc)?,
             shared: None,
         })
     }
@@ -124,7 +123,7 @@ impl<D: DataSet + Drop> Service<D> {
         ensures kept { OnOk result (IsKept from.now.reloads self.new) }
     {
         let pairs = self.session.learned(command)?;
-        learn_all(alloc, &mut self.history, pairs.as_slice())?;
+        self.history.learn_all(alloc, pairs.as_slice())?;
         self.shared = None;
         let seq = self.learns + 1;
         self.learns = seq;
@@ -165,22 +164,22 @@ impl<D: DataSet + Drop> Service<D> {
         })
     }
 
-    /// The history, shared. It is copied once after a learn.
+    /// The history, shared. Its list is made once after a learn.
     fn shared_history(
         &mut self,
         alloc: Global,
         from: &Data<'_, D>,
     ) -> Result<Arc<Vec<Pair>>, NoMemory>
         requires kept { IsKept from.now.reloads self.old }
-        ensures history { IfOk result (λ shared. (arc_value shared).items ≡ self.old.history.items) }
+        ensures history { IfOk result (λ shared. (arc_value shared).items ≡ self.old.history) }
         ensures same { OnOk result (progress_of self.new ≡ progress_of self.old) }
         ensures kept { OnOk result (IsKept from.now.reloads self.new) }
     {
         if let Some(shared) = &self.shared {
             return Ok(Arc::try_clone(shared)?);
         }
-        let copy = copied(alloc, self.history.as_slice())?;
-        let shared = Arc::new(alloc, copy)?;
+        let pairs = self.history.pairs(alloc)?;
+        let shared = Arc::new(alloc, pairs)?;
         self.shared = Some(Arc::try_clone(&shared)?);
         Ok(shared)
     }
@@ -286,64 +285,4 @@ fn no_words(alloc: Global) -> Result<Arc<UserDict>, NoMemory>
     ensures { IfOk result (λ words. (kept_in (arc_value words)).rows ≡ []) }
 {
     Ok(Arc::new(alloc, UserDict::empty(alloc))?)
-}
-
-/// Learns pairs, from left to right.
-fn learn_all(alloc: Global, history: &mut Vec<Pair>, pairs: &[Pair]) -> Result<(), NoMemory>
-    ensures { OnOk result (history.new.items ≡ learn history.old.items pairs.now) }
-{
-    for pair in pairs {
-        let pair = copy_of(alloc, pair)?;
-        learn_one(history, pair)?;
-    }
-    Ok(())
-}
-
-/// The pair goes first, an equal one goes, and what is past the most is dropped.
-fn learn_one(history: &mut Vec<Pair>, pair: Pair) -> Result<(), NoMemory>
-    ensures { OnOk result (history.new.items ≡ with_learned history.old.items pair) }
-{
-    without(history, &pair);
-    history.insert(0, pair)?;
-    history.truncate(MOST_PAIRS);
-    Ok(())
-}
-
-/// An equal pair goes.
-fn without(history: &mut Vec<Pair>, pair: &Pair)
-    ensures { history.new.items ≡ filter (λ other. not (is_pair pair.now other)) history.old.items }
-{
-    history.retain(|other| is_another(pair, other));
-}
-
-/// Whether they differ in key or value.
-fn is_another(pair: &Pair, other: &Pair) -> bool
-    ensures { result ≡ not (is_pair pair.now other.now) }
-{
-    !is_pair(pair, other)
-}
-
-fn is_pair(pair: &Pair, other: &Pair) -> bool
-    ensures { result ≡ is_pair pair.now other.now }
-{
-    other.key.as_chars() == pair.key.as_chars() && other.value.as_chars() == pair.value.as_chars()
-}
-
-fn copied(alloc: Global, pairs: &[Pair]) -> Result<Vec<Pair>, NoMemory>
-    ensures { IfOk result (λ copy. copy.items ≡ pairs.now) }
-{
-    let mut copy = Vec::with_capacity(alloc, pairs.len())?;
-    for pair in pairs {
-        copy.push(copy_of(alloc, pair)?)?;
-    }
-    Ok(copy)
-}
-
-fn copy_of(alloc: Global, pair: &Pair) -> Result<Pair, NoMemory>
-    ensures { IfOk result (λ copy. copy ≡ pair.now) }
-{
-    Ok(Pair {
-        key: pair.key.copy(alloc)?,
-        value: pair.value.copy(alloc)?,
-    })
 }
