@@ -2,7 +2,9 @@ pub mod CertificateLemmas
 pub mod ClientLemmas
 pub mod Computing
 pub mod EventKinds
+pub mod EntryLemmas
 pub mod GrowthLemmas
+pub mod JournalLemmas
 pub mod LogAnswers
 pub mod LogLemmas
 pub mod NoteLemmas

@@ -165,7 +165,7 @@ own-at [] place = refl
 own-at (plan ∷ plans) zero = refl
 own-at (plan ∷ plans) (suc place) = own-at plans place
 
-no-own : (world : World) (c : ℕ) → (client_at (start world) c).log.own ≡ []
+pub no-own : (world : World) (c : ℕ) → (client_at (start world) c).log.own ≡ []
 unfolding client_at
 no-own world zero = refl
 no-own world (suc place) = own-at world.clients place

@@ -2,6 +2,7 @@ pub mod Deeds
 pub mod Examples
 pub mod GrowthLaws
 pub mod Jobs
+pub mod JournalLaws
 pub mod LogLaws
 pub mod NoteLaws
 pub mod Numbers

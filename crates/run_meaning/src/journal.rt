@@ -1,0 +1,14 @@
+ghost use Rattle.run_meaning.specs.JournalLaws.{CommitsAreLearned, EntriesAreNumbered, LearnsAreEntered, OthersHaveNone};
+
+/// The journal of a client's user has the client's learns numbered 1, 2, .., as many as it made; then, if it has ended, its end
+/// with their number, and nothing of it afterwards. The journal of another user has nothing of it.
+pub fn entries_are_numbered()
+    ensures own { EntriesAreNumbered }
+    ensures others { OthersHaveNone }
+{}
+
+/// A learn enters the pairs of the next command, which commits; and a step that commits comes when they are entered.
+pub fn commits_are_learned()
+    ensures learns { LearnsAreEntered }
+    ensures steps { CommitsAreLearned }
+{}
