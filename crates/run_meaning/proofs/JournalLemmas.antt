@@ -156,7 +156,7 @@ module _ (world : World) where
       others c user apart =
           ⊎_elim (λ same. its-elsewhere s d c user e deed (λ here. apart (sym here ∙ ap (user_of world) same)) ∙ before.others c user apart) (λ unequal. its-other s d c user e deed unequal ∙ before.others c user apart) (cases_eq d c)
 
-  journals-apply : (s t : State) (e : Event) → apply world s e ≡ Some t → AreAsMany t → Journals s → Journals t
+  pub journals-apply : (s t : State) (e : Event) → apply world s e ≡ Some t → AreAsMany t → Journals s → Journals t
   journals-apply =
       by_kind world (λ s e t. AreAsMany t → Journals s → Journals t) (λ s job o legal many. journals-job s job o) (λ s legal many. journals-close s) (λ s user reload legal many. journals-reload s user reload) (λ s c e deed came many before. journals-did s c e deed came before many)
 
@@ -171,7 +171,7 @@ module _ (world : World) where
   begun zero = ([], refl)
   begun (suc place) = begun-at world.clients place
 
-  journals-start : Journals (start world)
+  pub journals-start : Journals (start world)
   journals-start =
       record {
         as_many = as-many-start world;

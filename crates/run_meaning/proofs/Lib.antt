@@ -9,4 +9,6 @@ pub mod LogAnswers
 pub mod LogLemmas
 pub mod NoteLemmas
 pub mod NumberLemmas
+pub mod RisingLemmas
+pub mod SeenLemmas
 pub mod SoloLemmas

@@ -8,6 +8,7 @@ pub mod NoteLaws
 pub mod Numbers
 pub mod Orders
 pub mod Plays
+pub mod SeenLaws
 pub mod SoloLaws
 pub mod Solos
 pub mod States

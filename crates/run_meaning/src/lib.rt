@@ -9,6 +9,7 @@ mod journal;
 mod log;
 mod notes;
 mod numbers;
+mod seen;
 mod solo;
 
 pub use examples::{
@@ -21,4 +22,5 @@ pub use journal::{commits_are_learned, entries_are_numbered};
 pub use log::{each_comes_once, newest_is_highest, published_jobs_rise};
 pub use notes::{each_event_is_legal, events_are_noted};
 pub use numbers::numbers_hold;
+pub use seen::{jobs_are_none_older, journals_are_none_older};
 pub use solo::clients_are_alone;
