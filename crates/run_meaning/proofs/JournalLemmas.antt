@@ -212,7 +212,7 @@ learns_are_entered world events s t c made here there =
     }
 
 -- what a step with a commit waited for
-waited-for : (p : Progress) → is_learned (need_of p.session p.rest) ≡ true → lacks_learn p ≡ false → p.learned ≡ true
+pub waited-for : (p : Progress) → is_learned (need_of p.session p.rest) ≡ true → lacks_learn p ≡ false → p.learned ≡ true
 waited-for p commits lacks =
     ⊎_elim (λ no. absurd (true≢false (sym commits ∙ no))) (λ no. not-false p.learned no) (and_cases (is_learned (need_of p.session p.rest)) (not p.learned) lacks)
 

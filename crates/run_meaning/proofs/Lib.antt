@@ -1,8 +1,8 @@
 pub mod CertificateLemmas
 pub mod ClientLemmas
 pub mod Computing
-pub mod EventKinds
 pub mod EntryLemmas
+pub mod EventKinds
 pub mod GrowthLemmas
 pub mod JournalLemmas
 pub mod LogAnswers
@@ -12,3 +12,6 @@ pub mod NumberLemmas
 pub mod RisingLemmas
 pub mod SeenLemmas
 pub mod SoloLemmas
+pub mod StepDataLemmas
+pub mod TakenLemmas
+pub mod VersionLemmas

@@ -99,7 +99,7 @@ sees-learns world s c e given deed learns ending all = refl
 
 -- ---- Each event
 
-abbrev lengths_seen : List Own → List ℕ
+abbrev pub lengths_seen : List Own → List ℕ
 lengths_seen own = filter_map length_seen own
 
 module _ (world : World) where
@@ -151,7 +151,12 @@ module _ (world : World) where
   learns-grown c client before after more grown within are =
       ap (λ journal. map (learns_by c) (journals_seen journal client.log.own)) grown ∙ ap (map (learns_by c)) (same-parts before more (lengths_seen client.log.own) within.high) ∙ are
 
-  sights-apply : (s t : State) (e : Event) → apply world s e ≡ Some t → Sights s → Sights t
+  -- what a client saw after an event is of the journal before it
+  pub near : (s t : State) (e : Event) → apply world s e ≡ Some t → Sights s → (c : ℕ) → IsRising (length (journal s c)) (lengths_seen (client_at t c).log.own)
+  near s t e made before c =
+      ⊎_elim (λ same. subst (λ (client : Client). IsRising (length (journal s c)) (lengths_seen client.log.own)) (sym same) (before.lengths c)) (λ has. subst (λ (client : Client). IsRising (length (journal s c)) (lengths_seen client.log.own)) (sym (has.made before.journals.as_many)) (lengths-done s c e has.deed has.came (before.lengths c))) (after-apply world s t e made c)
+
+  pub sights-apply : (s t : State) (e : Event) → apply world s e ≡ Some t → Sights s → Sights t
   sights-apply s t e made before =
       record { journals = journals-apply world s t e made (as-many-apply world s t e made before.journals.as_many) before.journals; jobs = jobs; lengths = lengths; learns = learns }
     where
@@ -162,21 +167,17 @@ module _ (world : World) where
       jobs c =
           ⊎_elim (λ same. subst (λ (client : Client). IsRising client.progress.seen (jobs_named client.log.own)) (sym same) (before.jobs c)) (λ has. subst (λ (client : Client). IsRising client.progress.seen (jobs_named client.log.own)) (sym (has.made before.journals.as_many)) (jobs-done s c e has.deed has.came (before.jobs c))) (after-apply world s t e made c)
 
-      near : (c : ℕ) → IsRising (length (journal s c)) (lengths_seen (client_at t c).log.own)
-      near c =
-          ⊎_elim (λ same. subst (λ (client : Client). IsRising (length (journal s c)) (lengths_seen client.log.own)) (sym same) (before.lengths c)) (λ has. subst (λ (client : Client). IsRising (length (journal s c)) (lengths_seen client.log.own)) (sym (has.made before.journals.as_many)) (lengths-done s c e has.deed has.came (before.lengths c))) (after-apply world s t e made c)
-
       lengths : (c : ℕ) → IsRising (length (journal t c)) (lengths_seen (client_at t c).log.own)
-      lengths c = lengths-grown (journal s c) (journal t c) (grown c).0 (lengths_seen (client_at t c).log.own) (grown c).1 (near c)
+      lengths c = lengths-grown (journal s c) (journal t c) (grown c).0 (lengths_seen (client_at t c).log.own) (grown c).1 (near s t e made before c)
 
       learns : (c : ℕ) → IsUserThere world c → AreSeen c (client_at t c) (journal t c)
       learns c there =
-          learns-grown c (client_at t c) (journal s c) (journal t c) (grown c).0 (grown c).1 (near c) (⊎_elim (λ same. subst (λ (client : Client). AreSeen c client (journal s c)) (sym same) (before.learns c there)) (λ has. subst (λ (client : Client). AreSeen c client (journal s c)) (sym (has.made before.journals.as_many)) (learns-done s c e has.deed has.came before.journals there (before.learns c there))) (after-apply world s t e made c))
+          learns-grown c (client_at t c) (journal s c) (journal t c) (grown c).0 (grown c).1 (near s t e made before c) (⊎_elim (λ same. subst (λ (client : Client). AreSeen c client (journal s c)) (sym same) (before.learns c there)) (λ has. subst (λ (client : Client). AreSeen c client (journal s c)) (sym (has.made before.journals.as_many)) (learns-done s c e has.deed has.came before.journals there (before.learns c there))) (after-apply world s t e made c))
 
   none-rise : (top : ℕ) → IsRising top []
   none-rise top = record { high = λ k d less. absurd (omega (arith, less)); rise = λ i j d less inside. absurd (omega (arith, inside)) }
 
-  sights-start : Sights (start world)
+  pub sights-start : Sights (start world)
   sights-start =
       record {
         journals = journals-start world;

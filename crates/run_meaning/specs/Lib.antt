@@ -13,4 +13,5 @@ pub mod SoloLaws
 pub mod Solos
 pub mod States
 pub mod Users
+pub mod VersionLaws
 pub mod Worlds

@@ -11,6 +11,7 @@ mod notes;
 mod numbers;
 mod seen;
 mod solo;
+mod version;
 
 pub use examples::{
     a_conversion_is_certified, a_late_job_is_skipped, a_take_has_the_learns_before_it,
@@ -24,3 +25,6 @@ pub use notes::{each_event_is_legal, events_are_noted};
 pub use numbers::numbers_hold;
 pub use seen::{jobs_are_none_older, journals_are_none_older};
 pub use solo::clients_are_alone;
+pub use version::{
+    data_stay_without_a_take, lines_have_the_version, takes_are_typed, the_last_take_is_used,
+};
