@@ -15,8 +15,9 @@ mod version;
 
 pub use examples::{
     a_conversion_is_certified, a_late_job_is_skipped, a_take_has_the_learns_before_it,
-    one_client_runs, reloads_come, the_highest_reload_is_in_force, the_second_is_served_alone,
-    these_are_not_legal, two_clients_run, waits_end,
+    data_are_replaced_between_compositions, one_client_runs, reloads_come,
+    the_highest_reload_is_in_force, the_second_is_served_alone, these_are_not_legal,
+    two_clients_run, waits_end,
 };
 pub use growth::{closed_logs_stay, logs_grow, others_are_left, own_deeds_are_done};
 pub use journal::{commits_are_learned, entries_are_numbered};
