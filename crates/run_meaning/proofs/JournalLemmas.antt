@@ -13,17 +13,17 @@ use Rattle.mz_base.specs.declared.logs.UserLog.{UserLog}
 use Rattle.keys.specs.declared.command.Command.{Command}
 use Rattle.session_meaning.specs.Laws.{is_learned}
 use Rattle.run_meaning.specs.Deeds.{Deed, Awaits, Ends, FindsNone, Learns, Steps, Takes, awaited_by, done, entries_of, is_empty, lacks_learn, lacks_take, may, need_of, pairs_of}
-use Rattle.run_meaning.specs.JournalLaws.{CommitsAreLearned, EntriesAreNumbered, IsUserThere, LearnsAreEntered, OthersHaveNone, entries_by, is_by, its_entries}
+use Rattle.run_meaning.specs.JournalLaws.{CommitsAreLearned, EntriesAreNumbered, IsUserThere, LearnsAreEntered, OthersHaveNone, UsersAreThere, entries_by, is_by, its_entries}
 use Rattle.run_meaning.specs.Numbers.{is_number}
 use Rattle.run_meaning.specs.Plays.{apply, did, play, with_entries}
 use Rattle.run_meaning.specs.States.{Client, Progress, State, begun_with, client_at, journal_of, no_progress, no_user_log, start, user_log}
-use Rattle.run_meaning.specs.Worlds.{ClientPlan, World, user_of}
+use Rattle.run_meaning.specs.Worlds.{ClientPlan, World, no_client, user_of}
 use Rattle.run_meaning.proofs.ClientLemmas.{AreAsMany, as-many-apply, as-many-start, own-did}
 use Rattle.run_meaning.proofs.EntryLemmas.{Enters, enters-does}
 use Rattle.run_meaning.proofs.EventKinds.{MayCome, after_close, after_job, after_reload, by_client-some, by_kind, kept_by_play, learning, stepping}
 use Rattle.run_meaning.proofs.GrowthLemmas.{entries-with, entries_at, others-did}
 use Rattle.run_meaning.proofs.LogAnswers.{empty-journals}
-use Rattle.run_meaning.proofs.NumberLemmas.{count, written}
+use Rattle.run_meaning.proofs.NumberLemmas.{count, number_at, written}
 use Rattle.run_meaning.proofs.SoloLemmas.{done-own, no-own, own_of}
 
 -- ---- Entries of one client among those of another
@@ -227,3 +227,7 @@ commits_are_learned world events s t c made here there commits =
     let fourth = and_parts (not (lacks_learn p)) (not (lacks_take p)) third.1 in
     let it = held.waits (waited-for p commits (not-true (lacks_learn p) fourth.0)) in
     (it.before, it.last ∙ ap (λ n. it.before ++ entry.Learn c n (pairs_of p.session p.rest) ∷ []) held.counted)
+
+pub users_are_there : UsersAreThere
+users_are_there world zero can there = absurd (false≢true there)
+users_are_there world (suc place) can there = can.users_there place no_client (number_at world.clients place there)

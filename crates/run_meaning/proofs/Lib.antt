@@ -9,6 +9,7 @@ pub mod LogAnswers
 pub mod LogLemmas
 pub mod NoteLemmas
 pub mod NumberLemmas
+pub mod OwnLemmas
 pub mod RisingLemmas
 pub mod SeenLemmas
 pub mod SoloLemmas

@@ -11,7 +11,7 @@ use Rattle.run_meaning.specs.Deeds.{need_of, pairs_of}
 use Rattle.run_meaning.specs.Numbers.{is_number}
 use Rattle.run_meaning.specs.Plays.{apply, play}
 use Rattle.run_meaning.specs.States.{Client, State, client_at, journal_of}
-use Rattle.run_meaning.specs.Worlds.{World, user_of}
+use Rattle.run_meaning.specs.Worlds.{IsWorld, World, user_of}
 
 -- ---- The entries of a client
 
@@ -30,6 +30,10 @@ its_entries world s c = entries_by c (journal_of s (user_of world c))
 -- the user of a client is one of the world's
 abbrev pub IsUserThere : World → ℕ → Type 0
 IsUserThere world c = IsTrue (is_number world.users (user_of world c))
+
+-- in a world that can be run each client's is
+abbrev pub UsersAreThere : Type 0
+UsersAreThere = (world : World) (c : ℕ) → IsWorld world → IsTrue (is_number world.clients c) → IsUserThere world c
 
 -- how many learns own events are
 abbrev pub is_learn : Event → Bool

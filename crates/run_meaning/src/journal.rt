@@ -1,4 +1,4 @@
-ghost use Rattle.run_meaning.specs.JournalLaws.{CommitsAreLearned, EntriesAreNumbered, LearnsAreEntered, OthersHaveNone};
+ghost use Rattle.run_meaning.specs.JournalLaws.{CommitsAreLearned, EntriesAreNumbered, LearnsAreEntered, OthersHaveNone, UsersAreThere};
 
 /// The journal of a client's user has the client's learns numbered 1, 2, .., as many as it made; then, if it has ended, its end
 /// with their number, and nothing of it afterwards. The journal of another user has nothing of it.
@@ -11,4 +11,9 @@ pub fn entries_are_numbered()
 pub fn commits_are_learned()
     ensures learns { LearnsAreEntered }
     ensures steps { CommitsAreLearned }
+{}
+
+/// In a world that can be run the user of each client is there, as the laws of journals want it.
+pub fn users_are_there()
+    ensures { UsersAreThere }
 {}
