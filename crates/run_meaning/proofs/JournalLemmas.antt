@@ -47,7 +47,7 @@ by-own client Steps = refl
 -- ---- Entries of one client in a journal with more
 
 -- what others enter adds none
-by-quiet : (users : List UserLog) (user : ℕ) (entries : List UserEntry) (other c : ℕ) → entries_by c entries ≡ [] → entries_by c (entries_at (with_entries users user entries) other) ≡ entries_by c (entries_at users other)
+pub by-quiet : (users : List UserLog) (user : ℕ) (entries : List UserEntry) (other c : ℕ) → entries_by c entries ≡ [] → entries_by c (entries_at (with_entries users user entries) other) ≡ entries_by c (entries_at users other)
 by-quiet users user entries other c none =
     ⊎_elim (λ same. ap (entries_by c) same) (λ more. ap (entries_by c) more.1 ∙ filter-append (is_by c) (entries_at users other) entries ∙ ap (λ xs. entries_by c (entries_at users other) ++ xs) none ∙ append-nil (entries_by c (entries_at users other))) (entries-with users user entries other)
 
@@ -124,7 +124,7 @@ module _ (world : World) where
       subst (λ (next : Client). Enters c next.progress next.log.own (its_entries world after c)) (sym (own-did world s c e deed came.number before.as_many)) entered
 
   -- entries of a client after a deed of another
-  its-other : (s : State) (d c user : ℕ) (e : Event) (deed : Deed) → d ≢ c → entries_by c (journal_of (did world s d deed e) user) ≡ entries_by c (journal_of s user)
+  pub its-other : (s : State) (d c user : ℕ) (e : Event) (deed : Deed) → d ≢ c → entries_by c (journal_of (did world s d deed e) user) ≡ entries_by c (journal_of s user)
   unfolding did journal_of client_at
   its-other s d c user e deed apart = by-quiet s.logs.users (user_of world d) (entries_of (client_at s d) deed) user c (by-other (client_at s d) deed c apart)
 

@@ -10,6 +10,7 @@ pub mod LogLemmas
 pub mod NoteLemmas
 pub mod NumberLemmas
 pub mod OwnLemmas
+pub mod PairLemmas
 pub mod RisingLemmas
 pub mod SeenLemmas
 pub mod SoloLemmas

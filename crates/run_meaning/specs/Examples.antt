@@ -26,10 +26,11 @@ use Rattle.keys.specs.declared.command.Command.{Command}
 use Rattle.keys.specs.declared.command.Command.TheVariants as command
 use Rattle.keys.specs.declared.key.Key.TheVariants as key
 use Rattle.session_meaning.specs.Stages.{Pinned}
-use Rattle.run_meaning.specs.JournalLaws.{its_entries}
+use Rattle.run_meaning.specs.JournalLaws.{its_entries, pairs_learned}
 use Rattle.run_meaning.specs.Orders.{run, run_order}
 use Rattle.run_meaning.specs.Plays.{is_complete, play}
 use Rattle.run_meaning.specs.SeenLaws.{jobs_named, learns_before, seen_by}
+use Rattle.run_meaning.specs.SoloLaws.{around_in}
 use Rattle.run_meaning.specs.Solos.{Around, Solo, alone, answers_of, solo}
 use Rattle.run_meaning.specs.States.{Client, State, client_at, client_log_of, journal_of, progress_of, start}
 use Rattle.run_meaning.specs.Users.{rows_of}
@@ -279,8 +280,9 @@ pub record IsReplaced : Type 0 where
   pub named : after_replaced (λ state. jobs_named (client_log_of state 1).own) ≡ Some (1 ∷ 2 ∷ [])
   pub seen : after_replaced (λ state. map length (seen_by replacing state 1)) ≡ Some (0 ∷ 1 ∷ [])
   pub learns : after_replaced (λ state. learns_before 0 (client_log_of state 1).own) ≡ Some (0 ∷ 1 ∷ [])
-  -- its entries
+  -- its entries, and the pairs that its own events learn
   pub entries : after_replaced (λ state. its_entries replacing state 1) ≡ Some (noted.Learn 1 1 (record { key = a; value = first_a } ∷ []) ∷ [])
+  pub pairs : after_replaced (λ state. pairs_learned replacing (around_in replacing state 1) (client_at (start replacing) 1) (client_log_of state 1).own) ≡ Some ((record { key = a; value = first_a } ∷ []) ∷ [])
   -- the data that it composes with
   pub composed : after_replaced (λ state. composes_with (client_at state 1)) ≡ Some (Some (record { version = 2; lists = two_words; history = record { key = a; value = first_a } ∷ []; rows = [] }))
 

@@ -1,5 +1,6 @@
 -- What a client enters in its user's journal: its learns, and its end.
 use Rattle.std.specs.Prelude.{◌≡◌, ◌≢◌, ℕ, ◌+◌, ◌==◌, Bool, true, false, IsTrue, List, [], ◌∷◌, ◌++◌, Some, count_by, filter, if◌then◌else◌, length}
+use Rattle.std.specs.Option.{option_map_or}
 use Rattle.mz_base.specs.declared.event.Event.{Event}
 use Rattle.mz_base.specs.declared.event.Event.TheVariants as event
 use Rattle.mz_base.specs.declared.lattice.Pair.{Pair}
@@ -10,7 +11,9 @@ use Rattle.session_meaning.specs.Laws.{is_learned}
 use Rattle.run_meaning.specs.Deeds.{need_of, pairs_of}
 use Rattle.run_meaning.specs.Numbers.{is_number}
 use Rattle.run_meaning.specs.Plays.{apply, play}
-use Rattle.run_meaning.specs.States.{Client, State, client_at, journal_of}
+use Rattle.run_meaning.specs.SoloLaws.{around_in}
+use Rattle.run_meaning.specs.Solos.{Around, alone_after}
+use Rattle.run_meaning.specs.States.{Client, State, client_at, journal_of, start}
 use Rattle.run_meaning.specs.Worlds.{IsWorld, World, user_of}
 
 -- ---- The entries of a client
@@ -97,3 +100,15 @@ LearnsAreEntered =
 abbrev pub CommitsAreLearned : Type 0
 CommitsAreLearned =
     (world : World) (events : List Event) (s t : State) (c : ℕ) → play world events ≡ Some s → apply world s (event.Step c) ≡ Some t → IsUserThere world c → IsTrue (commits (client_at s c)) → IsLastLearn (client_at s c) (learns_in (client_at s c).log.own) (its_entries world s c)
+
+-- ---- They are what the client's own events make, whatever others do
+
+-- the pairs of the learns among own events: for each those of the next command, where the client is after the events before it
+abbrev pub pairs_learned : World → Around → Client → List Own → List (List Pair)
+pairs_learned world around client [] = []
+pairs_learned world around client (own ∷ rest) =
+    (if is_learn own.event then pairs_next client ∷ [] else []) ++ option_map_or (λ next. pairs_learned world around next rest) (alone_after world around client own) []
+
+abbrev pub EntriesAreItsOwn : Type 0
+EntriesAreItsOwn =
+    (world : World) (events : List Event) (s : State) (c : ℕ) → play world events ≡ Some s → IsUserThere world c → its_entries world s c ≡ numbered c 1 (pairs_learned world (around_in world s c) (client_at (start world) c) (client_at s c).log.own) ++ end_if (client_at s c).progress.ended c (learns_in (client_at s c).log.own)

@@ -20,7 +20,9 @@ pub use examples::{
     two_clients_run, waits_end,
 };
 pub use growth::{closed_logs_stay, logs_grow, others_are_left, own_deeds_are_done};
-pub use journal::{commits_are_learned, entries_are_numbered, users_are_there};
+pub use journal::{
+    commits_are_learned, entries_are_its_own, entries_are_numbered, users_are_there,
+};
 pub use log::{each_comes_once, newest_is_highest, published_jobs_rise};
 pub use notes::{each_event_is_legal, events_are_noted};
 pub use numbers::numbers_hold;

@@ -5,4 +5,4 @@ use Rattle.run_meaning.proofs.examples.data_are_replaced_between_compositions.Go
 pub returns : goal.returns
 unfolding computing
 returns _ =
-    record { versions = refl; jobs = refl; named = refl; seen = refl; learns = refl; entries = refl; composed = refl }
+    record { versions = refl; jobs = refl; named = refl; seen = refl; learns = refl; entries = refl; pairs = refl; composed = refl }
