@@ -11,7 +11,7 @@ use Rattle.mz_base.specs.declared.logs.UserEntry.{UserEntry}
 use Rattle.mz_base.specs.declared.logs.UserEntry.TheVariants as entry
 use Rattle.run_meaning.specs.GrowthLaws.{IsGrown}
 use Rattle.run_meaning.specs.JournalLaws.{end_if, is_learn, learns_in, numbered}
-use Rattle.run_meaning.specs.SeenLaws.{is_learned, is_take, journals_seen, learns_before, length_seen}
+use Rattle.run_meaning.specs.SeenLaws.{is_learn_entry, is_take, journals_seen, learns_before, length_seen}
 use Rattle.run_meaning.proofs.LogLemmas.{count-cons}
 
 -- ---- Numbers that never fall, up to a highest one
@@ -90,12 +90,12 @@ before-more made (first ∷ own) o =
 
 -- ---- Learns of a client in its entries
 
-count-numbered : (c from : ℕ) (learned : List (List Pair)) (ended : Bool) (count : ℕ) → count_by is_learned (numbered c from learned ++ end_if ended c count) ≡ length learned
+count-numbered : (c from : ℕ) (learned : List (List Pair)) (ended : Bool) (count : ℕ) → count_by is_learn_entry (numbered c from learned ++ end_if ended c count) ≡ length learned
 count-numbered c from [] true count = refl
 count-numbered c from [] false count = refl
 count-numbered c from (pairs ∷ learned) ended count =
     let rest = count-numbered c (from + 1) learned ended count in
-    count-cons is_learned (entry.Learn c from pairs) (numbered c (from + 1) learned ++ end_if ended c count) ∙ (let sum : 1 + count_by is_learned (numbered c (from + 1) learned ++ end_if ended c count) ≡ suc (length learned) = omega (arith, rest) in sum)
+    count-cons is_learn_entry (entry.Learn c from pairs) (numbered c (from + 1) learned ++ end_if ended c count) ∙ (let sum : 1 + count_by is_learn_entry (numbered c (from + 1) learned ++ end_if ended c count) ≡ suc (length learned) = omega (arith, rest) in sum)
 
-pub counted-learns : (c : ℕ) (learned : List (List Pair)) (ended : Bool) (entries : List UserEntry) → entries ≡ numbered c 1 learned ++ end_if ended c (length learned) → count_by is_learned entries ≡ length learned
-counted-learns c learned ended entries are = ap (count_by is_learned) are ∙ count-numbered c 1 learned ended (length learned)
+pub counted-learns : (c : ℕ) (learned : List (List Pair)) (ended : Bool) (entries : List UserEntry) → entries ≡ numbered c 1 learned ++ end_if ended c (length learned) → count_by is_learn_entry entries ≡ length learned
+counted-learns c learned ended entries are = ap (count_by is_learn_entry) are ∙ count-numbered c 1 learned ended (length learned)

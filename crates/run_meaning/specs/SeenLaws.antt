@@ -64,13 +64,13 @@ SeenOnlyGrow =
 
 -- ---- Learns
 
-abbrev pub is_learned : UserEntry → Bool
-is_learned (entry.Learn client seq pairs) = true
-is_learned _ = false
+abbrev pub is_learn_entry : UserEntry → Bool
+is_learn_entry (entry.Learn client seq pairs) = true
+is_learn_entry _ = false
 
 -- how many learns of a client a journal has
 abbrev pub learns_by : ℕ → List UserEntry → ℕ
-learns_by c journal = count_by is_learned (entries_by c journal)
+learns_by c journal = count_by is_learn_entry (entries_by c journal)
 
 -- how many learns came before each take among own events, where so many came before them all
 abbrev pub learns_before : ℕ → List Own → List ℕ
