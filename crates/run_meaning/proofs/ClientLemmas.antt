@@ -1,19 +1,22 @@
 -- What a deed makes of its own client in a state.
-use Rattle.std.proofs.Common.{◌≡◌, refl, sym, ap, subst, ◌∙◌, ℕ, suc, ◌<◌, ◌++◌, true, List, [], ◌∷◌, Option, Some, None, length, map, option_map, arith}
-use Rattle.std.specs.Prelude.{◌&&◌, IsTrue, nat_le, nat_lt}
+use Rattle.std.proofs.Common.{◌≡◌, refl, sym, ap, subst, ◌∙◌, ℕ, suc, ◌<◌, ◌≤◌, ◌++◌, Bool, true, List, [], ◌∷◌, Option, Some, None, length, map, option_map, arith, take, take_all}
+use Rattle.std.specs.Prelude.{◌&&◌, IsTrue, if◌then◌else◌, nat_le, nat_lt}
 use Rattle.mz_base.specs.declared.event.Event.{Event}
 use Rattle.mz_base.specs.declared.logs.CertEntry.{CertEntry}
 use Rattle.keys.specs.declared.command.Command.{Command}
 use Rattle.session_meaning.specs.Steps.{step}
 use Rattle.run_meaning.specs.Deeds.{Deed, Awaits, Ends, FindsNone, Learns, Steps, Takes, certificate_of, certified_by, does, done, over, stepped, with_certificate}
 use Rattle.run_meaning.specs.GrowthLaws.{IsDone, OwnIsDone}
+use Rattle.run_meaning.specs.Jobs.{newest}
 use Rattle.run_meaning.specs.Numbers.{is_number}
 use Rattle.run_meaning.specs.Plays.{apply, certificates_with, certified, did, play}
-use Rattle.run_meaning.specs.Solos.{client_of}
-use Rattle.run_meaning.specs.States.{Client, State, begun_with, certificates_of, client_at, client_log, no_client_log, no_progress, start}
-use Rattle.run_meaning.specs.Worlds.{ClientPlan, World}
+use Rattle.run_meaning.specs.SoloLaws.{around_in}
+use Rattle.run_meaning.specs.Solos.{client_of, deed_of}
+use Rattle.run_meaning.specs.States.{Client, State, begun_with, certificates_of, client_at, client_log, journal_of, no_client_log, no_progress, start}
+use Rattle.run_meaning.specs.Users.{data_of}
+use Rattle.run_meaning.specs.Worlds.{ClientPlan, World, user_of}
 use Rattle.run_meaning.proofs.CertificateLemmas.{certificate-client, own-certificates}
-use Rattle.run_meaning.proofs.EventKinds.{by_kind, kept_by_play}
+use Rattle.run_meaning.proofs.EventKinds.{IsDeed, awaiting, by_kind, ending, finding_none, kept_by_play, learning, stepping, taking}
 use Rattle.run_meaning.proofs.GrowthLemmas.{client-is}
 use Rattle.run_meaning.proofs.NumberLemmas.{count, written}
 
@@ -116,10 +119,25 @@ own-did world s c e deed number are =
     let certificates = certified-own c s.logs.certificates (certificate_of client deed) (certificate-client client deed) ∙ sym (done-made client e deed) in
     λ i. record { number = sym same i; progress = progress i; log = log i; certificates = certificates i }
 
--- so each event of a client is a deed of it
-done-apply : (world : World) (s t : State) (e : Event) → apply world s e ≡ Some t → AreAsMany s → 0 < client_of e → IsDone s t e (client_of e)
+-- ---- Each event of a client
+
+-- its deed is read with the state's log and journal
+read-deed : (world : World) (s : State) (c : ℕ) (e : Event) (given : Bool) (deed : Deed) → IsDeed world s c e given deed → given ≡ true → deed_of world (around_in world s c) e (length (journal_of s (user_of world c))) ≡ Some deed
+unfolding deed_of
+read-deed world s c e given deed learning there = refl
+read-deed world s c e given deed stepping there = refl
+read-deed world s c e given deed ending there = refl
+read-deed world s c e given deed (taking job) there =
+    let journal = journal_of s (user_of world c) in
+    ap (λ b. if b then Some (Takes (data_of world (user_of world c) job (take (length journal) journal)) (length journal)) else None) there
+    ∙ ap (λ entries. Some (Takes (data_of world (user_of world c) job entries) (length journal))) (take_all (length journal) journal (let all : length journal ≤ length journal = omega arith in all))
+read-deed world s c e given deed (awaiting job) there = ap (λ b. if b then Some (Awaits job) else None) there
+read-deed world s c e given deed finding_none there = ap (λ b. if b then Some (FindsNone (newest s.logs.jobs)) else None) there
+
+-- it may come, and was done
+done-apply : (world : World) (s t : State) (e : Event) → apply world s e ≡ Some t → AreAsMany s → 0 < client_of e → IsDone world s t e (client_of e)
 done-apply world =
-    by_kind world (λ s e t. AreAsMany s → 0 < client_of e → IsDone s t e (client_of e)) (λ s job o legal are some. absurd (omega (arith, some))) (λ s legal are some. absurd (omega (arith, some))) (λ s user reload legal are some. absurd (omega (arith, some))) (λ s c e deed may are some. subst (λ n. IsDone s (did world s c deed e) e n) (sym (client-is world s c e may.given deed may.is)) (record { deed = deed; may_come = may.may_come; made = own-did world s c e deed may.number are }))
+    by_kind world (λ s e t. AreAsMany s → 0 < client_of e → IsDone world s t e (client_of e)) (λ s job o legal are some. absurd (omega (arith, some))) (λ s legal are some. absurd (omega (arith, some))) (λ s user reload legal are some. absurd (omega (arith, some))) (λ s c e deed may are some. subst (λ n. IsDone world s (did world s c deed e) e n) (sym (client-is world s c e may.given deed may.is)) (record { deed = deed; read = read-deed world s c e may.given deed may.is may.there; may_come = may.may_come; made = own-did world s c e deed may.number are }))
 
 pub own_is_done : OwnIsDone
 own_is_done world events s t e played made some =

@@ -36,7 +36,7 @@ pub record MayCome (world : World) (s : State) (c : ℕ) (e : Event) (deed : Dee
   pub number : IsTrue (is_number s.clients c)
   pub may_come : IsTrue (may (client_at s c) deed)
 
-by_client-some : (world : World) (s t : State) (c : ℕ) (e : Event) (given : Bool) (deed : Deed) → IsDeed world s c e given deed → by_client world s given c deed e ≡ Some t → MayCome world s c e deed × (did world s c deed e ≡ t)
+pub by_client-some : (world : World) (s t : State) (c : ℕ) (e : Event) (given : Bool) (deed : Deed) → IsDeed world s c e given deed → by_client world s given c deed e ≡ Some t → MayCome world s c e deed × (did world s c deed e ≡ t)
 unfolding by_client
 by_client-some world s t c e given deed is made =
     let legal = provided-some (is_open s && (given && (is_number s.clients c && may (client_at s c) deed))) (did world s c deed e) t made in

@@ -170,7 +170,7 @@ empty-at [] place = refl
 empty-at (plan ∷ plans) zero = refl
 empty-at (plan ∷ plans) (suc place) = empty-at plans place
 
-empty-journals : (world : World) (user : ℕ) → journal_of (start world) user ≡ []
+pub empty-journals : (world : World) (user : ℕ) → journal_of (start world) user ≡ []
 unfolding journal_of
 empty-journals world zero = refl
 empty-journals world (suc place) = empty-at world.users place

@@ -134,7 +134,7 @@ after-apply world =
 
 module _ (world : World) where
   -- what holds of a state, its log and its clients
-  record Follows (s : State) : Type 0 where
+  pub record Follows (s : State) : Type 0 where
     pub full : IsFullIfClosed world s
     pub as_many : AreAsMany s
     pub follows : (c : ℕ) (around : Around) → Begins world s c around → alone world around (client_at (start world) c) (client_at s c).log.own ≡ Some (client_at s c)
@@ -152,7 +152,7 @@ module _ (world : World) where
       let whole : alone world around opening (client.log.own ++ own ∷ []) ≡ Some (done client e has.deed) = alone-more world around own opening client.log.own ∙ ap (λ o. option_and_then (λ next. alone_after world around next own) o) (before.follows c around begins) ∙ last in
       ap (λ (after : Client). alone world around opening after.log.own) is ∙ ap (alone world around opening) (done-own client e has.deed) ∙ whole ∙ ap Some (sym is)
 
-  follows-apply : (s t : State) (e : Event) → apply world s e ≡ Some t → Follows s → Follows t
+  pub follows-apply : (s t : State) (e : Event) → apply world s e ≡ Some t → Follows s → Follows t
   follows-apply s t e made before =
       record {
         full = (closed-apply world s t e made before.full).full;
@@ -165,12 +165,20 @@ own-at [] place = refl
 own-at (plan ∷ plans) zero = refl
 own-at (plan ∷ plans) (suc place) = own-at plans place
 
-no-own : (world : World) (c : ℕ) → (client_at (start world) c).log.own ≡ []
+pub no-own : (world : World) (c : ℕ) → (client_at (start world) c).log.own ≡ []
 unfolding client_at
 no-own world zero = refl
 no-own world (suc place) = own-at world.clients place
 
+pub follows-start : (world : World) → Follows world (start world)
+follows-start world =
+    record { full = full-start world; as_many = as-many-start world; follows = λ c around begins. ap (alone world around (client_at (start world) c)) (no-own world c) }
+
+-- the state's own log and journal are such
+pub begins-in : (world : World) (s : State) (c : ℕ) → Begins world s c (around_in world s c)
+begins-in world s c =
+    record { user = refl; jobs = grown-refl s.logs.jobs; closed = λ is. (is, refl); journal = grown-refl (journal_of s (user_of world c)) }
+
 pub clients_are_alone : ClientsAreAlone
 clients_are_alone world events s c made =
-    let opens : Follows world (start world) = record { full = full-start world; as_many = as-many-start world; follows = λ c around begins. ap (alone world around (client_at (start world) c)) (no-own world c) } in
-    (kept_by_play world (Follows world) (follows-apply world) (start world) s events made opens).follows c (around_in world s c) (record { user = refl; jobs = grown-refl s.logs.jobs; closed = λ is. (is, refl); journal = grown-refl (journal_of s (user_of world c)) })
+    (kept_by_play world (Follows world) (follows-apply world) (start world) s events made (follows-start world)).follows c (around_in world s c) (begins-in world s c)

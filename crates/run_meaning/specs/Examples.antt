@@ -1,5 +1,5 @@
 -- Worked examples: small worlds, their runs, and other lists of events.
-use Rattle.std.specs.Prelude.{◌≡◌, ℕ, Bool, true, false, pos, List, [], ◌∷◌, Option, Some, Result, Ok, Err, codes, is_some, map, option_map}
+use Rattle.std.specs.Prelude.{◌≡◌, ℕ, Bool, true, false, pos, List, [], ◌∷◌, Option, Some, Result, Ok, Err, codes, is_some, length, map, option_map}
 use Rattle.std.specs.Fmt.{decimal}
 use Rattle.mz_base.specs.Data.{DataLists}
 use Rattle.mz_base.specs.declared.event.Event.{Event}
@@ -26,11 +26,15 @@ use Rattle.keys.specs.declared.command.Command.{Command}
 use Rattle.keys.specs.declared.command.Command.TheVariants as command
 use Rattle.keys.specs.declared.key.Key.TheVariants as key
 use Rattle.session_meaning.specs.Stages.{Pinned}
+use Rattle.run_meaning.specs.JournalLaws.{its_entries, pairs_learned}
 use Rattle.run_meaning.specs.Orders.{run, run_order}
 use Rattle.run_meaning.specs.Plays.{is_complete, play}
+use Rattle.run_meaning.specs.SeenLaws.{jobs_named, learns_before, seen_by}
+use Rattle.run_meaning.specs.SoloLaws.{around_in}
 use Rattle.run_meaning.specs.Solos.{Around, Solo, alone, answers_of, solo}
 use Rattle.run_meaning.specs.States.{Client, State, client_at, client_log_of, journal_of, progress_of, start}
 use Rattle.run_meaning.specs.Users.{rows_of}
+use Rattle.run_meaning.specs.VersionLaws.{composes_with, jobs_at_lines}
 use Rattle.run_meaning.specs.Worlds.{ClientPlan, NotUtf8, Read, Reload, UserPlan, World, no_lists}
 
 -- ---- What the worlds are made of
@@ -252,6 +256,35 @@ SecondAlone =
 abbrev pub SecondSolo : Type 0
 SecondSolo =
     option_map (λ (s : Solo). s.lines) (solo 2 (type_a ∷ []) (answers_of two_clients around_second second_own)) ≡ Some second_lines
+
+-- ---- Data are replaced while a client types
+
+-- two jobs, and a, Space, a
+abbrev pub replacing : World
+replacing = world_with (Ok two_words ∷ Ok two_words ∷ []) ((type_a ∷ space ∷ type_a ∷ []) ∷ [])
+
+-- job 2 comes before the conversion, which still has the data of job 1; the next character commits, and then takes those of 2
+abbrev pub replaced : List Event
+replaced =
+    event.Job 1 outcome.Published ∷ event.Take 1 1 ∷ event.Step 1 ∷ event.Job 2 outcome.Published ∷ event.Step 1 ∷ event.Learn 1 ∷ event.Take 1 2 ∷ event.Step 1 ∷ []
+
+abbrev pub after_replaced : {A : Type 0} → (State → A) → Option A
+after_replaced word = option_map word (play replacing replaced)
+
+-- what the laws say of its client
+pub record IsReplaced : Type 0 where
+  -- each line has the version of the last take before it
+  pub versions : after_replaced (λ state. map (λ (line : Line). line.version) (client_log_of state 1).lines) ≡ Some (1 ∷ 1 ∷ 2 ∷ [])
+  pub jobs : after_replaced (λ state. jobs_at_lines 0 (client_log_of state 1).own) ≡ Some (1 ∷ 1 ∷ 2 ∷ [])
+  -- the jobs that it named, and how much of the journal its takes saw, with how many learns
+  pub named : after_replaced (λ state. jobs_named (client_log_of state 1).own) ≡ Some (1 ∷ 2 ∷ [])
+  pub seen : after_replaced (λ state. map length (seen_by replacing state 1)) ≡ Some (0 ∷ 1 ∷ [])
+  pub learns : after_replaced (λ state. learns_before 0 (client_log_of state 1).own) ≡ Some (0 ∷ 1 ∷ [])
+  -- its entries, and the pairs that its own events learn
+  pub entries : after_replaced (λ state. its_entries replacing state 1) ≡ Some (noted.Learn 1 1 (record { key = a; value = first_a } ∷ []) ∷ [])
+  pub pairs : after_replaced (λ state. pairs_learned replacing (around_in replacing state 1) (client_at (start replacing) 1) (client_log_of state 1).own) ≡ Some ((record { key = a; value = first_a } ∷ []) ∷ [])
+  -- the data that it composes with
+  pub composed : after_replaced (λ state. composes_with (client_at state 1)) ≡ Some (Some (record { version = 2; lists = two_words; history = record { key = a; value = first_a } ∷ []; rows = [] }))
 
 -- ---- What is not legal
 

@@ -6,24 +6,27 @@ use Rattle.run_meaning.specs.Deeds.{Deed, done, may}
 use Rattle.run_meaning.specs.Jobs.{is_logged}
 use Rattle.run_meaning.specs.Numbers.{numbers}
 use Rattle.run_meaning.specs.Plays.{apply, play, play_from}
-use Rattle.run_meaning.specs.Solos.{client_of}
+use Rattle.run_meaning.specs.SoloLaws.{around_in}
+use Rattle.run_meaning.specs.Solos.{client_of, deed_of}
 use Rattle.run_meaning.specs.States.{State, client_at, journal_of}
-use Rattle.run_meaning.specs.Worlds.{World}
+use Rattle.run_meaning.specs.Worlds.{World, user_of}
 
 -- an event of one client leaves each other client as it was, and an event of none leaves all
 abbrev pub OthersAreLeft : Type 0
 OthersAreLeft =
     (world : World) (s t : State) (e : Event) (c : ℕ) → apply world s e ≡ Some t → client_of e ≢ c → client_at t c ≡ client_at s c
 
--- What an event makes of its own client: a deed that may come was done.
-pub record IsDone (s t : State) (e : Event) (c : ℕ) : Type 0 where
+-- What an event makes of its own client: its deed, read with the state's job log and the whole journal of the client's user,
+-- may come, and was done.
+pub record IsDone (world : World) (s t : State) (e : Event) (c : ℕ) : Type 0 where
   pub deed : Deed
+  pub read : deed_of world (around_in world s c) e (length (journal_of s (user_of world c))) ≡ Some deed
   pub may_come : IsTrue (may (client_at s c) deed)
   pub made : client_at t c ≡ done (client_at s c) e deed
 
 abbrev pub OwnIsDone : Type 0
 OwnIsDone =
-    (world : World) (events : List Event) (s t : State) (e : Event) → play world events ≡ Some s → apply world s e ≡ Some t → 0 < client_of e → IsDone s t e (client_of e)
+    (world : World) (events : List Event) (s t : State) (e : Event) → play world events ≡ Some s → apply world s e ≡ Some t → 0 < client_of e → IsDone world s t e (client_of e)
 
 -- a list is another with more after it
 abbrev pub IsGrown : {A : Type 0} → List A → List A → Type 0

@@ -2,13 +2,16 @@ pub mod Deeds
 pub mod Examples
 pub mod GrowthLaws
 pub mod Jobs
+pub mod JournalLaws
 pub mod LogLaws
 pub mod NoteLaws
 pub mod Numbers
 pub mod Orders
 pub mod Plays
+pub mod SeenLaws
 pub mod SoloLaws
 pub mod Solos
 pub mod States
 pub mod Users
+pub mod VersionLaws
 pub mod Worlds

@@ -1,4 +1,4 @@
-ghost use Rattle.run_meaning.specs.Examples.{CertifyingRun, LowerReload, NoReload, NoSuchEnd, NoSuchJob, NoSuchReload, NoSuchStep, OneClientLines, OneClientRun, RefusedReload, ReloadingRun, ReloadingTake, SecondAlone, SecondLog, SecondSolo, SkippedJob, TakenAfter, TakenBefore, TwoClientsJournal, TwoClientsRun, WaitingJobs, WaitingLines, WaitingRun};
+ghost use Rattle.run_meaning.specs.Examples.{CertifyingRun, IsReplaced, LowerReload, NoReload, NoSuchEnd, NoSuchJob, NoSuchReload, NoSuchStep, OneClientLines, OneClientRun, RefusedReload, ReloadingRun, ReloadingTake, SecondAlone, SecondLog, SecondSolo, SkippedJob, TakenAfter, TakenBefore, TwoClientsJournal, TwoClientsRun, WaitingJobs, WaitingLines, WaitingRun};
 
 /// One client types a character and commits it.
 pub fn one_client_runs()
@@ -47,6 +47,11 @@ pub fn reloads_come()
 /// A conversion leaves its certificate.
 pub fn a_conversion_is_certified()
     ensures { CertifyingRun }
+{}
+
+/// A conversion keeps its data while another job comes, and the character after it has those of that job and what was learned.
+pub fn data_are_replaced_between_compositions()
+    ensures { IsReplaced }
 {}
 
 /// Each cause for which an event is not legal.

@@ -5,7 +5,8 @@ pub fn others_are_left()
     ensures { OthersAreLeft }
 {}
 
-/// An event of a client makes of it what a deed makes that may come.
+/// An event of a client makes of it what its deed makes, which may come: a take has the data of its job and of the user's whole
+/// journal, a take or a wait names a job that stands published, and a wait finds none only where the job log is closed.
 pub fn own_deeds_are_done()
     ensures { OwnIsDone }
 {}

@@ -1,8 +1,9 @@
-ghost use Rattle.run_meaning.specs.NoteLaws.{EachIsLegal, EventsAreNoted};
+ghost use Rattle.run_meaning.specs.NoteLaws.{EachIsLegal, EventsAreNoted, OwnAreNoted};
 
-/// The events that were played are noted, in their order, and no others.
+/// The events that were played are noted, in their order, and no others; and as a client's own those of them that are its.
 pub fn events_are_noted()
-    ensures { EventsAreNoted }
+    ensures all { EventsAreNoted }
+    ensures own { OwnAreNoted }
 {}
 
 /// No event is legal, and a list with one more is exactly where the list is, and the event in the state that it leads to.
