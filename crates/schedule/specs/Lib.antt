@@ -1,0 +1,5 @@
+pub mod Drafts
+pub mod Events
+pub mod Names
+pub mod Readings
+pub mod Texts

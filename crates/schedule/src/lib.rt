@@ -1,0 +1,12 @@
+//! The schedule of a run: its events as text. [`read`] reads a file, a report among them, and [`print`] writes the events.
+//! What a line, a file and an event mean: specs/Events.antt, Readings.antt and Texts.antt, and docs/FORMATS.md.
+#![tactic(auto)]
+
+mod event_line;
+mod numbers;
+mod reader;
+mod writer;
+
+pub use event_line::MOST_NUMBER;
+pub use reader::{Reading, read};
+pub use writer::print;
