@@ -1,1 +1,5 @@
+pub mod EventRows
 pub mod FieldCounts
+pub mod FieldTexts
+pub mod ReadAgain
+pub mod SplitLines

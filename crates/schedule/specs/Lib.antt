@@ -3,3 +3,4 @@ pub mod Events
 pub mod Names
 pub mod Readings
 pub mod Texts
+pub mod Written
