@@ -1,3 +1,4 @@
+pub mod Computing
 pub mod EventRows
 pub mod FieldCounts
 pub mod FieldTexts

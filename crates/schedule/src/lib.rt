@@ -4,12 +4,14 @@
 #![tactic(auto)]
 
 mod event_line;
+mod examples;
 mod laws;
 mod numbers;
 mod reader;
 mod writer;
 
 pub use event_line::MOST_NUMBER;
+pub use examples::{bad_lines_are_told, schedules_read};
 pub use laws::{limits_are, printed_schedules_read};
 pub use reader::{Reading, read};
 pub use writer::print;
