@@ -1,0 +1,6 @@
+pub mod Computing
+pub mod EventRows
+pub mod FieldCounts
+pub mod FieldTexts
+pub mod ReadAgain
+pub mod SplitLines
