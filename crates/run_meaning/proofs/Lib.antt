@@ -1,3 +1,4 @@
+pub mod AsideLemmas
 pub mod CertificateLemmas
 pub mod ClientLemmas
 pub mod Computing
@@ -5,6 +6,7 @@ pub mod EventKinds
 pub mod GrowthLemmas
 pub mod LogAnswers
 pub mod LogLemmas
+pub mod MadeLemmas
 pub mod NoteLemmas
 pub mod NumberLemmas
 pub mod SoloLemmas

@@ -5,6 +5,7 @@ pub mod Jobs
 pub mod LogLaws
 pub mod NoteLaws
 pub mod Numbers
+pub mod OrderLaws
 pub mod Orders
 pub mod Plays
 pub mod SoloLaws
