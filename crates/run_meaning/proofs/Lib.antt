@@ -3,10 +3,13 @@ pub mod CertificateLemmas
 pub mod ClientLemmas
 pub mod Computing
 pub mod EventKinds
+pub mod FinalLemmas
 pub mod GrowthLemmas
 pub mod LogAnswers
 pub mod LogLemmas
 pub mod MadeLemmas
 pub mod NoteLemmas
 pub mod NumberLemmas
+pub mod RunningLemmas
+pub mod ServingLemmas
 pub mod SoloLemmas

@@ -20,5 +20,5 @@ pub use growth::{closed_logs_stay, logs_grow, others_are_left, own_deeds_are_don
 pub use log::{each_comes_once, newest_is_highest, published_jobs_rise};
 pub use notes::{each_event_is_legal, events_are_noted};
 pub use numbers::numbers_hold;
-pub use order::{certificates_stand_aside, run_is_played};
+pub use order::{certificates_stand_aside, run_is_complete, run_is_played, waits_of_a_run_end};
 pub use solo::clients_are_alone;
