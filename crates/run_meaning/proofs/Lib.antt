@@ -1,3 +1,4 @@
+pub mod AnswerLemmas
 pub mod AsideLemmas
 pub mod CertificateLemmas
 pub mod ClientLemmas
@@ -5,6 +6,7 @@ pub mod Computing
 pub mod EventKinds
 pub mod FinalLemmas
 pub mod GrowthLemmas
+pub mod LegalLemmas
 pub mod LogAnswers
 pub mod LogLemmas
 pub mod MadeLemmas

@@ -21,12 +21,12 @@ use Rattle.run_meaning.specs.GrowthLaws.{AreLogsGrown, IsGrown}
 use Rattle.run_meaning.specs.Jobs.{entry_after, is_logged, is_outcome, is_passed, is_published, job_of, newest, outcome_of, publishes}
 use Rattle.run_meaning.specs.Numbers.{at_number, is_number}
 use Rattle.run_meaning.specs.Orders.{all_made, job_came, jobs_left, made, reload_came, unless_reached, waited}
-use Rattle.run_meaning.specs.Plays.{apply, did, is_first, is_job_legal, is_reload_legal, provided, with_entries}
+use Rattle.run_meaning.specs.Plays.{apply, did, is_first, is_job_legal, is_reload_legal, play, provided, with_entries}
 use Rattle.run_meaning.specs.Solos.{client_of}
 use Rattle.run_meaning.specs.States.{State, client_at, is_open, journal_of, begun_with, no_user_log, start, user_log}
 use Rattle.run_meaning.specs.Users.{enters, is_entered}
 use Rattle.run_meaning.specs.Worlds.{ClientPlan, World, job_at, no_job, reloads_of, user_of}
-use Rattle.run_meaning.proofs.EventKinds.{MayCome, after_job, after_reload, by_kind}
+use Rattle.run_meaning.proofs.EventKinds.{MayCome, after_job, after_reload, by_kind, kept_by_play}
 use Rattle.run_meaning.proofs.GrowthLemmas.{entries_at, grown-apply, logs-refl, logs-trans, others_are_left}
 use Rattle.run_meaning.proofs.LogLemmas.{any-push, logged-push}
 use Rattle.run_meaning.proofs.MadeLemmas.{IsPlayed, made-keeps, made-legal, played-made}
@@ -80,6 +80,10 @@ module _ (world : World) where
     where
       by_did : (s : State) (c : ℕ) (e : Event) (deed : Deed) → MayCome world s c e deed → length (did world s c deed e).clients ≡ length s.clients
       by_did s c e deed may = count s.clients c (done (client_at s c) e deed).progress
+
+  pub clients-play : (events : List Event) (s : State) → play world events ≡ Some s → length s.clients ≡ length world.clients
+  clients-play events s made =
+      kept_by_play world (λ s. length s.clients ≡ length world.clients) (λ s t e here same. clients-apply s t e here ∙ same) (start world) s events made (length-map world.clients (λ (plan : ClientPlan). begun_with plan.commands))
 
   users-apply : (s t : State) (e : Event) → apply world s e ≡ Some t → length t.logs.users ≡ length s.logs.users
   unfolding did

@@ -61,7 +61,7 @@ standing c session rest learned taken seen learns log certificates =
       certificates = certificates;
     }
 
-with-same : (client : Client) (made : Option CertEntry) → with_certificate client made ≡ record client { certificates = with_made client.certificates made }
+pub with-same : (client : Client) (made : Option CertEntry) → with_certificate client made ≡ record client { certificates = with_made client.certificates made }
 with-same client None = refl
 with-same client (Some made) = refl
 
@@ -81,7 +81,7 @@ module _ (world : World) where
   by-client-legal s c e given deed opens there number can =
       ap (λ b. if b then Some (did world s c deed e) else None) (and_from (is_open s) _ opens (and_from given _ there (and_from (is_number s.clients c) (may (client_at s c) deed) number can)))
 
-  legal-deed : (s : State) (c : ℕ) (e : Event) (given : Bool) (deed : Deed) → IsDeed world s c e given deed → IsTrue (is_open s) → given ≡ true → IsTrue (is_number s.clients c) → may (client_at s c) deed ≡ true → apply world s e ≡ Some (did world s c deed e)
+  pub legal-deed : (s : State) (c : ℕ) (e : Event) (given : Bool) (deed : Deed) → IsDeed world s c e given deed → IsTrue (is_open s) → given ≡ true → IsTrue (is_number s.clients c) → may (client_at s c) deed ≡ true → apply world s e ≡ Some (did world s c deed e)
   unfolding apply
   legal-deed s c e given deed learning opens there number can = by-client-legal s c e given deed opens there number can
   legal-deed s c e given deed (taking job) opens there number can = by-client-legal s c e given deed opens there number can
@@ -400,14 +400,21 @@ module _ (world : World) where
     pub settled : IsSettled world t
     pub finished : IsFinished (client_at t c) (client_plan world c).commands
 
+  -- a client at the start
+  pub opens-standing : (c : ℕ) → client_at (start world) c ≡ standing c opening (client_plan world c).commands false None 0 0 (client_log (client_plan world c)) (client_at (start world) c).certificates
+  unfolding client_at
+  opens-standing c =
+      let plan = client_plan world c in
+      let progress : progress_of (start world) c ≡ begun_with plan.commands = at-map (λ (plan : ClientPlan). begun_with plan.commands) no_client world.clients c in
+      let log : at_number no_client_log (map client_log world.clients) c ≡ client_log plan = at-map client_log no_client world.clients c in
+      λ i. record { number = c; progress = progress i; log = log i; certificates = (client_at (start world) c).certificates }
+
   pub serves : (c : ℕ) (s : State) → IsTrue (is_number world.clients c) → IsRunning world s → IsSettled world s → client_at s c ≡ client_at (start world) c → HasServed c s (served world s c)
   unfolding done may client_at
   serves c s number running settled same =
       let plan = client_plan world c in
-      let progress : progress_of (start world) c ≡ begun_with plan.commands = at-map (λ (plan : ClientPlan). begun_with plan.commands) no_client world.clients c in
-      let log : at_number no_client_log (map client_log world.clients) c ≡ client_log plan = at-map client_log no_client world.clients c in
       let certificates = (client_at (start world) c).certificates in
-      let opens : client_at (start world) c ≡ standing c opening plan.commands false None 0 0 (client_log plan) certificates = λ i. record { number = c; progress = progress i; log = log i; certificates = certificates } in
+      let opens = opens-standing c in
       let was : IsServed s c [] plan.commands = record { session = opening; at_work = record { seen = 0; learns = 0; log = client_log plan; certificates = certificates; is = same ∙ opens; fresh = inl refl; ends = tt } } in
       let t = fold (obeyed world c) s plan.commands in
       let all = obeys-all c plan.commands [] s number running settled was in

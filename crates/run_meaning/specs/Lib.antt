@@ -1,3 +1,4 @@
+pub mod AnswerLaws
 pub mod Deeds
 pub mod Examples
 pub mod GrowthLaws

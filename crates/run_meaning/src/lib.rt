@@ -3,6 +3,7 @@
 //! specs/Plays.antt.
 #![tactic(auto)]
 
+mod answers;
 mod examples;
 mod growth;
 mod log;
@@ -11,6 +12,7 @@ mod numbers;
 mod order;
 mod solo;
 
+pub use answers::{answers_suffice, clients_are_solo, events_of_one_alone_are_legal};
 pub use examples::{
     a_conversion_is_certified, a_late_job_is_skipped, a_take_has_the_learns_before_it,
     one_client_runs, reloads_come, the_highest_reload_is_in_force, the_second_is_served_alone,
