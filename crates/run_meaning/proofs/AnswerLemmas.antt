@@ -1,7 +1,7 @@
 -- What its own events make of a client is what its commands lead to, with the answers that these events name.
-use Rattle.std.proofs.Common.{◌≡◌, refl, sym, ap, subst, ◌∙◌, ℕ, ◌+◌, ◌≤◌, Bool, true, false, List, [], ◌∷◌, ◌++◌, Option, Some, None, ⊎_elim, drop, length, length-append, arith, append_assoc, append-nil, take, take_all, option_map, option_to_list}
-use Rattle.std.specs.Prelude.{◌&&◌, IfSome, IsSomeAnd, if◌then◌else◌, is_none, is_some, not, option_and_then}
-use Rattle.std.specs.List.{cons_option}
+use Rattle.std.proofs.Common.{◌≡◌, zero, ◌<◌, get_or, refl, sym, ap, subst, ◌∙◌, ℕ, suc, ◌+◌, ◌≤◌, Bool, true, false, List, [], ◌∷◌, ◌++◌, Option, Some, None, ⊎_elim, drop, length, length-append, arith, append_assoc, append-nil, take, take_all, option_map, option_to_list}
+use Rattle.std.specs.Prelude.{◌&&◌, IfSome, IsTrue, IsSomeAnd, if◌then◌else◌, is_none, is_some, not, option_and_then}
+use Rattle.std.specs.List.{cons_option, list_all}
 use Rattle.std.specs.Option.{option_map_or}
 use Rattle.std.proofs.lemmas.Bool.{and_parts, cases_Bool, false≢true, not-true, true≢false}
 use Rattle.std.proofs.lemmas.List.{take-append-le}
@@ -16,14 +16,18 @@ use Rattle.keys.specs.declared.command.Command.TheVariants as command
 use Rattle.session_meaning.specs.Laws.{is_taken}
 use Rattle.session_meaning.specs.Stages.{Pinned, opening}
 use Rattle.session_meaning.specs.Steps.{needs, step}
-use Rattle.run_meaning.specs.AnswerLaws.{AloneIsSolo, AnswersSuffice, HasSolo, PlayedIsSolo, answers_in, carried_out}
-use Rattle.run_meaning.specs.Deeds.{Deed, Awaits, Ends, FindsNone, Learns, Steps, Takes, awaited_by, awaited_line, certificate_after, certified_by, done, lacks_learn, lacks_take, may, need_of, not_yet_line, noted, over}
+use Rattle.run_meaning.specs.AnswerLaws.{AloneIsSolo, AnswersSuffice, CompleteAnswersSuffice, HasSolo, PlayedIsSolo, answers_in, carried_out}
+use Rattle.run_meaning.specs.Deeds.{is_empty, Deed, Awaits, Ends, FindsNone, Learns, Steps, Takes, awaited_by, awaited_line, certificate_after, certified_by, done, lacks_learn, lacks_take, may, need_of, not_yet_line, noted, over}
+use Rattle.run_meaning.specs.Jobs.{is_logged}
+use Rattle.run_meaning.specs.Numbers.{is_number, numbers}
+use Rattle.run_meaning.specs.Plays.{are_entered, has_ended, is_complete, play}
 use Rattle.run_meaning.specs.SoloLaws.{around_in}
 use Rattle.run_meaning.specs.Solos.{Answer, Around, Awaited, Data, NotYet, Solo, alone, alone_after, answer_in, answer_of, answers_of, solo, solo_command, solo_from, steps_by, steps_with, wait_ends, with_line}
-use Rattle.run_meaning.specs.States.{Client, certificates_of, client_at, client_log_of, start}
+use Rattle.run_meaning.specs.States.{Client, State, certificates_of, client_at, client_log_of, no_progress, progress_of, start}
 use Rattle.run_meaning.specs.Worlds.{World, client_plan}
 use Rattle.run_meaning.proofs.ClientLemmas.{with_made}
 use Rattle.run_meaning.proofs.LegalLemmas.{goes-on-by}
+use Rattle.run_meaning.proofs.RunningLemmas.{clients-play, number-parts}
 use Rattle.run_meaning.proofs.ServingLemmas.{opens-standing, with-same}
 use Rattle.run_meaning.proofs.SoloLemmas.{clients_are_alone}
 
@@ -345,3 +349,41 @@ answers_suffice world other events others s t c played replayed same =
     let one : IsSomeAnd (solo c (carried_out other (client_at t c)) (answers_in other t c)) (HasSolo (client_at s c)) = subst (λ o. IsSomeAnd o (HasSolo (client_at s c))) (ap (λ xs. solo c xs (answers_in world s c)) cut ∙ ap (solo c (carried_out other (client_at t c))) same.answers) first in
     let both = alike (client_at s c) (client_at t c) (solo c (carried_out other (client_at t c)) (answers_in other t c)) one second in
     record { lines = both.0; certificates = both.1 }
+
+-- ---- Complete plays
+
+each-place : {A : Type 0} (p : A → Bool) (none : A) (xs : List A) (place : ℕ) → list_all p xs ≡ true → place < length xs → p (get_or xs place none) ≡ true
+each-place p none [] place all less = absurd (omega (arith, less))
+each-place p none (x ∷ xs) zero all less = (and_parts (p x) (list_all p xs) all).0
+each-place p none (x ∷ xs) (suc place) all less = each-place p none xs place (and_parts (p x) (list_all p xs) all).1 (omega (arith, less))
+
+nothing-left : (rest : List Command) → is_empty rest ≡ true → length rest ≡ 0
+nothing-left [] is = refl
+nothing-left (next ∷ rest) is = absurd (false≢true is)
+
+each-ended : (world : World) (events : List Event) (s : State) (c : ℕ) → play world events ≡ Some s → IsTrue (is_complete world s) → IsTrue (is_number world.clients c) → has_ended (progress_of s c) ≡ true
+each-ended world events s zero played complete there = absurd (omega (arith, (number-parts world.clients 0 there).0))
+each-ended world events s (suc place) played complete there =
+    let jobs = and_parts (list_all (is_logged s.logs.jobs) (numbers (length world.jobs))) _ complete in
+    let reloads = and_parts (list_all (are_entered world s) (numbers (length world.users))) _ jobs.1 in
+    let ended = and_parts s.logs.closed (list_all has_ended s.clients) reloads.1 in
+    let high = (number-parts world.clients (suc place) there).1 in
+    let count_same = clients-play world events s played in
+    each-place has_ended no_progress s.clients place ended.1 (omega (arith, high, count_same))
+
+-- a line for each command
+lines-of-all : (world : World) (events : List Event) (s : State) (c : ℕ) → play world events ≡ Some s → IsTrue (is_complete world s) → IsTrue (is_number world.clients c) → length (client_log_of s c).lines ≡ length (client_plan world c).commands
+unfolding client_at
+lines-of-all world events s c played complete there =
+    let around = around_in world s c in
+    let so_far = all-own world around c (client_log_of s c).own [] (client_at (start world) c) (client_at s c) (opens world around c) (clients_are_alone world events s c played) in
+    let ended = and_parts (is_empty (progress_of s c).rest) (progress_of s c).ended (each-ended world events s c played complete there) in
+    let none = nothing-left (progress_of s c).rest ended.0 in
+    let split = ap (λ (xs : List Command). length xs) so_far.split ∙ length-append so_far.before (progress_of s c).rest in
+    let count_before = so_far.count in
+    omega (arith, none, split, count_before)
+
+pub complete_answers_suffice : CompleteAnswersSuffice
+complete_answers_suffice world other events others s t c played replayed complete complete_too told =
+    let same : length (client_log_of s c).lines ≡ length (client_log_of t c).lines = lines-of-all world events s c played complete told.here ∙ ap (λ (xs : List Command). length xs) told.commands ∙ sym (lines-of-all other others t c replayed complete_too told.there) in
+    answers_suffice world other events others s t c played replayed (record { commands = told.commands; answers = told.answers; carried = same })

@@ -5,7 +5,7 @@ use Rattle.mz_base.specs.declared.event.Event.TheVariants as event
 use Rattle.mz_base.specs.declared.logs.Own.{Own}
 use Rattle.keys.specs.declared.command.Command.{Command}
 use Rattle.run_meaning.specs.Numbers.{is_number}
-use Rattle.run_meaning.specs.Plays.{apply, play}
+use Rattle.run_meaning.specs.Plays.{apply, is_complete, play}
 use Rattle.run_meaning.specs.SoloLaws.{around_in}
 use Rattle.run_meaning.specs.Solos.{Answer, Around, Solo, alone, alone_after, answers_of, solo}
 use Rattle.run_meaning.specs.States.{Client, State, client_at, client_log_of, journal_of, start}
@@ -51,6 +51,18 @@ pub record AreServedAlike (s t : State) (c : ℕ) : Type 0 where
 abbrev pub AnswersSuffice : Type 0
 AnswersSuffice =
     (world other : World) (events others : List Event) (s t : State) (c : ℕ) → play world events ≡ Some s → play other others ≡ Some t → AreAnsweredAlike world other s t c → AreServedAlike s t c
+
+-- a client has the same commands in two worlds, and got the same answers
+pub record AreToldAlike (world other : World) (s t : State) (c : ℕ) : Type 0 where
+  pub here : IsTrue (is_number world.clients c)
+  pub there : IsTrue (is_number other.clients c)
+  pub commands : (client_plan world c).commands ≡ (client_plan other c).commands
+  pub answers : answers_in world s c ≡ answers_in other t c
+
+-- where both plays are complete, that is enough: all commands were carried out
+abbrev pub CompleteAnswersSuffice : Type 0
+CompleteAnswersSuffice =
+    (world other : World) (events others : List Event) (s t : State) (c : ℕ) → play world events ≡ Some s → play other others ≡ Some t → IsTrue (is_complete world s) → IsTrue (is_complete other t) → AreToldAlike world other s t c → AreServedAlike s t c
 
 -- ---- From a client alone to an event
 
