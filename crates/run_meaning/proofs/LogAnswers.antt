@@ -50,7 +50,7 @@ module _ (world : World) where
       kept_by_play world (λ s. IsSoundLog world s.logs.jobs) sound-apply (start world) s events made (sound-start world)
 
   -- a closed log has job 1
-  abbrev BeginsIfClosed : State → Type 0
+  abbrev pub BeginsIfClosed : State → Type 0
   BeginsIfClosed s = IsTrue s.logs.closed → IsTrue (is_open s)
 
   begins-apply : (s t : State) (e : Event) → apply world s e ≡ Some t → BeginsIfClosed s → BeginsIfClosed t
@@ -65,7 +65,7 @@ module _ (world : World) where
       by_did : (s : State) (c : ℕ) (e : Event) (deed : Deed) → MayCome world s c e deed → BeginsIfClosed s → BeginsIfClosed (did world s c deed e)
       by_did s c e deed may begins = begins
 
-  begins-play : (events : List Event) (s : State) → play world events ≡ Some s → BeginsIfClosed s
+  pub begins-play : (events : List Event) (s : State) → play world events ≡ Some s → BeginsIfClosed s
   begins-play events s made = kept_by_play world BeginsIfClosed begins-apply (start world) s events made (λ is. absurd (false≢true is))
 
 pub published_rise : PublishedRise

@@ -1,3 +1,4 @@
+pub mod AnswerLaws
 pub mod Deeds
 pub mod Examples
 pub mod GrowthLaws
@@ -6,6 +7,7 @@ pub mod JournalLaws
 pub mod LogLaws
 pub mod NoteLaws
 pub mod Numbers
+pub mod OrderLaws
 pub mod Orders
 pub mod Plays
 pub mod SeenLaws

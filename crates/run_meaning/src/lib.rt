@@ -3,16 +3,19 @@
 //! specs/Plays.antt.
 #![tactic(auto)]
 
+mod answers;
 mod examples;
 mod growth;
 mod journal;
 mod log;
 mod notes;
 mod numbers;
+mod order;
 mod seen;
 mod solo;
 mod version;
 
+pub use answers::{answers_suffice, clients_are_solo, events_of_one_alone_are_legal};
 pub use examples::{
     a_conversion_is_certified, a_late_job_is_skipped, a_take_has_the_learns_before_it,
     data_are_replaced_between_compositions, one_client_runs, reloads_come,
@@ -26,6 +29,7 @@ pub use journal::{
 pub use log::{each_comes_once, newest_is_highest, published_jobs_rise};
 pub use notes::{each_event_is_legal, events_are_noted};
 pub use numbers::numbers_hold;
+pub use order::{certificates_stand_aside, run_is_complete, run_is_played, waits_of_a_run_end};
 pub use seen::{jobs_are_none_older, journals_are_none_older};
 pub use solo::clients_are_alone;
 pub use version::{

@@ -1,0 +1,5 @@
+use Rattle.run_meaning.proofs.AsideLemmas.{certificates_aside}
+use Rattle.run_meaning.proofs.order.certificates_stand_aside.Goals as goal
+
+pub returns : goal.returns
+returns c = certificates_aside
