@@ -106,7 +106,7 @@ module _ (world : World) (kept : Bool) where
   unfolding client_at
   may-without s c deed = may-aside (client_at s c) None deed
 
-  apply-aside : (s : State) (e : Event) → option_map without (apply (keeping world kept) s e) ≡ apply world (without s) e
+  pub apply-aside : (s : State) (e : Event) → option_map without (apply (keeping world kept) s e) ≡ apply world (without s) e
   unfolding apply journal_of
   apply-aside s (event.Job job o) = provided-map _ _
   apply-aside s event.Close = provided-map _ _

@@ -1,5 +1,6 @@
 pub mod AnswerLemmas
 pub mod AsideLemmas
+pub mod AsideRuns
 pub mod CertificateLemmas
 pub mod ClientLemmas
 pub mod Computing

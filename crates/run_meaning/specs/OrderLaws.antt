@@ -55,3 +55,11 @@ without state = record state { logs = record state.logs { certificates = None } 
 abbrev pub CertificatesAside : Type 0
 CertificatesAside =
     (world : World) (kept : Bool) (events : List Event) → option_map without (play (keeping world kept) events) ≡ option_map without (play world events)
+
+-- the runs are the same but for certificates, and their orders are the same
+pub record AreRunsAside (world : World) (kept : Bool) : Type 0 where
+  pub runs : without (run (keeping world kept)) ≡ without (run world)
+  pub orders : run_order (keeping world kept) ≡ run_order world
+
+abbrev pub RunsAside : Type 0
+RunsAside = (world : World) (kept : Bool) → AreRunsAside world kept

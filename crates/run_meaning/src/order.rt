@@ -1,4 +1,4 @@
-ghost use Rattle.run_meaning.specs.OrderLaws.{CertificatesAside, RunIsComplete, RunIsPlayed, WaitsEnd};
+ghost use Rattle.run_meaning.specs.OrderLaws.{CertificatesAside, RunIsComplete, RunIsPlayed, RunsAside, WaitsEnd};
 
 /// The order of a run is legal, and its play is the run.
 pub fn run_is_played()
@@ -15,7 +15,8 @@ pub fn waits_of_a_run_end()
     ensures { WaitsEnd }
 {}
 
-/// Whether certificates are kept changes nothing else.
+/// Whether certificates are kept changes nothing else: of no list of events, and of no run.
 pub fn certificates_stand_aside()
-    ensures { CertificatesAside }
+    ensures lists { CertificatesAside }
+    ensures runs { RunsAside }
 {}
