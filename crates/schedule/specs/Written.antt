@@ -5,6 +5,7 @@ use Rattle.mz_base.specs.Lines.{lines_of}
 use Rattle.mz_base.specs.declared.event.Event.{Event}
 use Rattle.mz_base.specs.declared.event.Event.TheVariants as event
 use Rattle.mz_base.specs.declared.logs.Names.{Names}
+use Rattle.schedule.specs.Names.{IsNamed}
 use Rattle.schedule.specs.Readings.{Part, is_heading, reading_of, reading_with}
 use Rattle.schedule.specs.Texts.{schedule_text}
 use Rattle.schedule.specs.declared.event_line.TheConstants.{MOST_NUMBER}
@@ -46,6 +47,15 @@ IsInRange (event.NotYet client) = ⊤
 IsInRange (event.Step client) = ⊤
 IsInRange (event.End client) = ⊤
 IsInRange event.Close = ⊤
+
+-- the user, or the client, of an event is there, and its number is in range
+abbrev pub CanBePrinted : Names → Event → Type 0
+CanBePrinted names event = IsNamed names event × IsInRange event
+
+-- so is each event of a file
+abbrev pub EventsCanBePrinted : Names → List (List ℕ) → Type 0
+EventsCanBePrinted names lines =
+    All (λ (found : ℕ × Event). CanBePrinted names found.1) (reading_of names lines).events
 
 -- the text ends with a line feed
 abbrev pub EndsInFeed : List ℕ → Type 0

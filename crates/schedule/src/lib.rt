@@ -12,6 +12,6 @@ mod writer;
 
 pub use event_line::MOST_NUMBER;
 pub use examples::{bad_lines_are_told, schedules_read};
-pub use laws::{limits_are, printed_schedules_read};
+pub use laws::{limits_are, printed_schedules_read, read_events_can_be_printed};
 pub use reader::{Reading, read};
 pub use writer::print;
