@@ -17,7 +17,7 @@ module _ (made : CertEntry) where
   -- ---- Where it goes
 
   -- behind one that is not of a later client
-  pub goes_on : (first : CertEntry) (entries : List CertEntry) → first.client ≤ made.client → certificates_with (first ∷ entries) made ≡ first ∷ certificates_with entries made
+  goes_on : (first : CertEntry) (entries : List CertEntry) → first.client ≤ made.client → certificates_with (first ∷ entries) made ≡ first ∷ certificates_with entries made
   goes_on first entries low =
       ap (λ b. cond b (first ∷ filter up_to entries) (filter up_to entries) ++ made ∷ filter past (first ∷ entries)) (le-leb first.client made.client low) ∙ ap (λ b. (first ∷ filter up_to entries) ++ made ∷ cond b (first ∷ filter past entries) (filter past entries)) (le-ltb made.client first.client low)
 
@@ -32,7 +32,7 @@ module _ (made : CertEntry) where
       ap (λ b. cond b (first ∷ filter past entries) (filter past entries)) (lt-ltb made.client first.client all.0) ∙ ap (λ rest. first ∷ rest) (all_past entries all.1)
 
   -- before those of later clients
-  pub goes_first : (entries : List CertEntry) → AllByRecursion (λ (entry : CertEntry). made.client < entry.client) entries → certificates_with entries made ≡ made ∷ entries
+  goes_first : (entries : List CertEntry) → AllByRecursion (λ (entry : CertEntry). made.client < entry.client) entries → certificates_with entries made ≡ made ∷ entries
   goes_first entries all =
       ap (λ front. front ++ made ∷ filter past entries) (none_up_to entries all) ∙ ap (λ rest. made ∷ rest) (all_past entries all)
 

@@ -36,7 +36,7 @@ does-log client (FindsNone newest) = refl
 does-log client Steps = stepped-log client client.progress.rest
 does-log client Ends = unlined client.log
 
-pub done-log : (client : Client) (e : Event) (deed : Deed) → (done client e deed).log ≡ noted_in client.log (own_of e deed) (line_of client deed)
+done-log : (client : Client) (e : Event) (deed : Deed) → (done client e deed).log ≡ noted_in client.log (own_of e deed) (line_of client deed)
 unfolding done
 done-log client e deed =
     let here = does-log client deed in
@@ -78,7 +78,7 @@ all-added logs place user e client deed log =
     ap (λ after. with_all logs place after (suc user) e client deed) noted ∙ both-beside (record logs { clients = noted_at logs.clients place (own_of e deed) (line_of client deed); events = logs.events ++ e ∷ [] }) user client deed
 
 -- of the client and the user at these places
-pub logs-did : (world : World) (s : State) (place user : ℕ) (deed : Deed) (e : Event) → user_of world (suc place) ≡ suc user → (did world s (suc place) deed e).logs ≡ added s.logs place user (own_of e deed) (line_of (client_at s (suc place)) deed) (beside_of (client_at s (suc place)) deed)
+logs-did : (world : World) (s : State) (place user : ℕ) (deed : Deed) (e : Event) → user_of world (suc place) ≡ suc user → (did world s (suc place) deed e).logs ≡ added s.logs place user (own_of e deed) (line_of (client_at s (suc place)) deed) (beside_of (client_at s (suc place)) deed)
 unfolding did client_at
 logs-did world s place user deed e of_user =
     let client = client_at s (suc place) in

@@ -1,3 +1,11 @@
 pub mod Additions
+pub mod Boards
 pub mod Certificates
+pub mod Comings
+pub mod Cores
+pub mod Helds
 pub mod JobFiles
+pub mod Kepts
+pub mod Plans
+pub mod Standings
+pub mod Followings

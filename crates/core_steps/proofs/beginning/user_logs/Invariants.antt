@@ -1,0 +1,7 @@
+use Rattle.std.proofs.Common.{◌≡◌, map, take}
+use Rattle.run_meaning.specs.States.{user_log}
+use Rattle.core_steps.proofs.beginning.user_logs.Given as goal
+
+-- the logs of the plans so far
+abbrev pub invariant-loop-plan : goal.invariant-loop-plan
+invariant-loop-plan l = l.logs.items ≡ map user_log (take l.plan-index l.plans)

@@ -1,0 +1,19 @@
+use Rattle.std.proofs.Common.{rules, refl, true}
+use Rattle.mz_base.specs.declared.event.Event.TheVariants as event
+use Rattle.run_meaning.specs.Deeds.{Learns}
+use Rattle.run_meaning.proofs.EventKinds.{learning}
+use Rattle.core_steps.specs.Kepts.{MayDo}
+use Rattle.core_steps.proofs.DeedLemmas.{kept-done, made-done}
+use Rattle.core_steps.proofs.running.Running.learn.Goals as goal
+
+pub returns-clause-kept : goal.returns-clause-kept
+returns-clause-kept g c =
+    let kept = c.args.self.now in
+    let can : MayDo kept c.args.client c.in_ok-place.place Learns = search rules in
+    kept-done kept c.do_learn.new.self c.requires c.args.client c.in_ok-place.place (event.Learn c.args.client) true Learns can learning refl c.in_ok-do_learn.ensures.ok
+
+pub returns-clause-stepped : goal.returns-clause-stepped
+returns-clause-stepped g c =
+    let kept = c.args.self.now in
+    let can : MayDo kept c.args.client c.in_ok-place.place Learns = search rules in
+    made-done kept c.do_learn.new.self c.requires c.args.client c.in_ok-place.place (event.Learn c.args.client) true Learns can learning refl c.in_ok-do_learn.ensures.ok
