@@ -48,7 +48,7 @@ take c4 4;step c4;step c4;learn c4;take c4 4;step c4;step c4;end c4;complete";
 const NOBODY: &str =
     "job 1 published;dict u1 1;job 2 refused;dict u1 2;job 3 published;job 4 published;close;complete";
 
-fn names(alloc: Global) -> Result<Names, NoMemory>
+pub fn names(alloc: Global) -> Result<Names, NoMemory>
     ensures users { IfOk result (λ names. length names.users ≡ 2) }
     ensures clients { IfOk result (λ names. length names.clients ≡ 4) }
 {
@@ -66,7 +66,7 @@ fn names(alloc: Global) -> Result<Names, NoMemory>
 }
 
 /// The lines of a schedule, from events with spaces and semicolons.
-fn lines_of(alloc: Global, events: &str) -> Result<String, NoMemory> {
+pub fn lines_of(alloc: Global, events: &str) -> Result<String, NoMemory> {
     let mut text = String::new(alloc);
     for letter in events.chars() {
         match letter {

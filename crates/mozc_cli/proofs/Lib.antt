@@ -1,6 +1,3 @@
-pub mod Entered
 pub mod KeyAnswers
-pub mod LearnedKept
-pub mod Runs
 pub mod Settling
-pub mod NamedRuns
+pub mod Reports

@@ -14,6 +14,11 @@ parse_manifest command manifest =
     if bytes_eq command (codes "check") then Some (request.Check (chars manifest)) else
     None
 
+-- a command with a manifest and a schedule
+abbrev pub parse_schedule : List ℕ → List ℕ → List ℕ → Option Request
+parse_schedule command manifest schedule =
+    if bytes_eq command (codes "replay") then Some (request.Replay (chars manifest) (chars schedule)) else None
+
 -- what is asked of one data set
 abbrev pub query : List ℕ → List ℕ → List ℕ → Query
 query manifest set key = record { manifest = chars manifest; set = chars set; key = chars key }
@@ -39,6 +44,7 @@ parse_last command query last =
 -- what the words ask for, where they are a command
 abbrev pub parse : List (List ℕ) → Option Request
 parse (command ∷ manifest ∷ []) = parse_manifest command manifest
+parse (command ∷ manifest ∷ schedule ∷ []) = parse_schedule command manifest schedule
 parse (command ∷ manifest ∷ set ∷ key ∷ []) = parse_key command (query manifest set key)
 parse (command ∷ manifest ∷ set ∷ key ∷ last ∷ []) = parse_last command (query manifest set key) last
 parse _ = None
@@ -46,6 +52,7 @@ parse _ = None
 -- what each request that the words give has: a key that is not empty, and bounds that are bounds of it
 abbrev pub IsFit : Request → Type 0
 IsFit (request.Run manifest) = ⊤
+IsFit (request.Replay manifest schedule) = ⊤
 IsFit (request.Check manifest) = ⊤
 IsFit (request.Convert query bounds) = (0 < length query.key) × AreBounds query.key bounds
 IsFit (request.Verify query certificate) = 0 < length query.key

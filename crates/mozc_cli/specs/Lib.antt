@@ -1,6 +1,6 @@
 pub mod Args
-pub mod Core
 pub mod Programs
+pub mod Replays
 pub mod Reported
-pub mod Services
 pub mod Settles
+pub mod Reports

@@ -20,7 +20,7 @@ told_for _ = None
 
 -- each text as it is written, with its last line feed
 abbrev pub text_of : Told → List ℕ
-text_of told.Help = codes "sockflint run MANIFEST\nRuns the client of the manifest and writes the report on standard output.\nsockflint check MANIFEST\nReads all data of the manifest and lists its data sets.\nsockflint convert MANIFEST SET KEY [BOUNDS]\nWrites the best path of a key in a data set, with its certificate.\nsockflint verify MANIFEST SET KEY FILE\nTests the certificate in a file.\n"
+text_of told.Help = codes "sockflint run MANIFEST\nRuns the clients of the manifest and writes the report on standard output.\nsockflint replay MANIFEST FILE\nRuns them by the schedule in a file, or in a report.\nsockflint check MANIFEST\nReads all data of the manifest and lists its data sets.\nsockflint convert MANIFEST SET KEY [BOUNDS]\nWrites the best path of a key in a data set, with its certificate.\nsockflint verify MANIFEST SET KEY FILE\nTests the certificate in a file.\n"
 text_of told.Version = codes "sockflint 0.1.0\n"
 
 -- what is told on standard error: the status's text, unless all went well

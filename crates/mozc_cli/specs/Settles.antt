@@ -1,5 +1,5 @@
 -- What the program's answer says, and what it writes: docs/FORMATS.md, "Statuses".
-use Rattle.std.specs.Prelude.{[], ◌≡◌, ⊤, ℕ, Bool, true, false, List, ◌++◌, Option, unwrap_or, Result, Ok, Err, if◌then◌else◌, codes, length, nat_lt}
+use Rattle.std.specs.Prelude.{[], ◌≡◌, ⊤, ℕ, Bool, true, false, List, ◌++◌, Option, Result, Ok, Err, if◌then◌else◌, codes, length, nat_lt}
 use Rattle.std.specs.List.{list_any}
 use Rattle.std.specs.Fmt.{signed_decimal}
 use Rattle.mz_base.specs.Answers.{◌>>=◌}
@@ -9,7 +9,7 @@ use Rattle.mz_base.specs.declared.status.CertFault.{CertFault}
 use Rattle.conversion_text.specs.Texts.{conversion_text}
 use Rattle.mz_base.specs.declared.report.Line.{Line}
 use Rattle.mz_base.specs.declared.report.Word.{Word}
-use Rattle.mz_base.specs.declared.report.Word.TheVariants.{Differs}
+use Rattle.mz_base.specs.declared.report.Word.TheVariants.{Differs, NotYet}
 use Rattle.mz_base.specs.declared.status.Limit.TheVariants.{Report}
 use Rattle.mz_base.specs.declared.status.Status.{Status}
 use Rattle.mz_base.specs.declared.status.Status.TheVariants as status
@@ -17,7 +17,9 @@ use Rattle.mz_outside.specs.Taken.{with_more, AddsFront}
 use Rattle.conversion_meaning.specs.Answers.{answer}
 use Rattle.conversion_meaning.specs.declared.rules.TheConstants.{RULE_ORDER}
 use Rattle.world_files.specs.Conversions.{IsVerdictOn}
-use Rattle.mozc_cli.specs.Core.{State, logs_of, play, run_order, start}
+use Rattle.run_meaning.specs.Orders.{run}
+use Rattle.run_meaning.specs.Worlds.{World}
+use Rattle.mozc_cli.specs.Replays.{replayed_in}
 use Rattle.world_files.specs.Queries.{Claimed, query_set, query_claim}
 use Rattle.world_files.specs.declared.query.Query.{Query}
 use Rattle.world_files.specs.Reading.{Files, UnlessFree}
@@ -25,40 +27,33 @@ use Rattle.report.specs.Texts.{report_text}
 use Rattle.report.specs.declared.room.TheConstants.{MOST_REPORT_BYTES}
 use Rattle.mz_base.specs.declared.logs.ClientLog.{ClientLog}
 use Rattle.mz_base.specs.declared.logs.Logs.{Logs}
-use Rattle.world_files.specs.Worlds.{World, world, listing}
+use Rattle.world_files.specs.Worlds.{listing, replay, world}
 use Rattle.mozc_cli.specs.declared.args.Request.{Request}
 use Rattle.mozc_cli.specs.declared.args.Request.TheVariants as request
 use Rattle.mz_base.specs.declared.status.Refusal.{Refusal}
 use Rattle.mz_base.specs.declared.status.Refusal.TheVariants as refusal
 
--- the line says that what was expected was not found
-abbrev pub is_differs : Word → Bool
-is_differs Differs = true
-is_differs _ = false
+-- the line says that what was expected was not found, or that what was waited for did not come
+abbrev pub is_unmet_word : Word → Bool
+is_unmet_word Differs = true
+is_unmet_word NotYet = true
+is_unmet_word _ = false
 
-abbrev pub has_differs : List Line → Bool
-has_differs lines = list_any (λ line. is_differs line.word) lines
+abbrev pub has_unmet : List Line → Bool
+has_unmet lines = list_any (λ line. is_unmet_word line.word) lines
 
--- what a command writes, and whether an expectation was not met in it
+-- what a command writes, and whether a line of it is unmet
 pub record Output : Type 0 where
   pub text : List ℕ
   pub unmet : Bool
 
--- an expectation of a client was not met
+-- a line of a client is unmet
 abbrev pub is_unmet : Logs → Bool
-is_unmet logs = list_any (λ (client : ClientLog). has_differs client.lines) logs.clients
-
--- what stands after the play of the order of a run, which is always legal
-unfoldable pub run_state : World → State
-run_state world = unwrap_or (play world (run_order world)) (start world)
+is_unmet logs = list_any (λ (client : ClientLog). has_unmet client.lines) logs.clients
 
 -- the report of logs
 abbrev pub output_of : Logs → Output
 output_of logs = record { text = report_text logs; unmet = is_unmet logs }
-
--- the report of a run
-abbrev pub run_output : World → Output
-run_output world = output_of (logs_of world (run_state world))
 
 abbrev pub list_output : List ℕ → Output
 list_output text = record { text = text; unmet = false }
@@ -67,9 +62,22 @@ list_output text = record { text = text; unmet = false }
 abbrev pub limited : Output → Result Output Refusal
 limited output = if nat_lt MOST_REPORT_BYTES (length output.text) then Err (refusal.TooLarge Report) else Ok output
 
--- what running the client of a manifest gives: the report of its world's run
+-- the report of a world's run
+abbrev pub run_output : World → Result Output Refusal
+run_output world = limited (output_of (run world).logs)
+
+-- what running the clients of a manifest gives
 abbrev pub run_meant : Files → List ℕ → Result Output Refusal
-run_meant files name = world files name >>= (λ world. limited (run_output world))
+run_meant files name = world files name >>= run_output
+
+-- the report of what the schedule in a file of these bytes leads to
+abbrev pub replay_output : World → List ℕ → Result Output Refusal
+replay_output world bytes = replayed_in world bytes >>= (λ state. limited (output_of state.logs))
+
+-- what replaying a schedule of a manifest gives
+abbrev pub replay_meant : Files → List ℕ → List ℕ → Result Output Refusal
+replay_meant files name schedule =
+    replay files name schedule >>= (λ given. replay_output given.world given.schedule)
 
 -- what checking a manifest gives: the listing of its data sets and its users' dictionaries
 abbrev pub check_meant : Files → List ℕ → Result Output Refusal
@@ -98,11 +106,12 @@ MeansVerdict key (Ok claimed) meant =
 -- What a command gives: what it writes, or the first refusal in the order of work.
 abbrev pub Means : Files → Request → Result Output Refusal → Type 0
 Means files (request.Run name) meant = meant ≡ run_meant files name
+Means files (request.Replay name schedule) meant = meant ≡ replay_meant files name schedule
 Means files (request.Check name) meant = meant ≡ check_meant files name
 Means files (request.Convert query bounds) meant = meant ≡ convert_meant files query bounds
 Means files (request.Verify query name) meant = MeansVerdict query.key (query_claim files query name) meant
 
--- the output was written whole, and each expectation is met in it, or not
+-- the output was written whole, and a line of it is unmet, or none is
 pub record IsWritten (Gives : Result Output Refusal → Type 0) (unmet : Bool) (before after : Option (List ℕ)) : Type 0 where
   pub text : List ℕ
   pub gives : Gives (Ok (record { text = text; unmet = unmet }))

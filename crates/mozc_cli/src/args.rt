@@ -1,15 +1,17 @@
 ghost use Rattle.std.specs.Prelude.{◌≡◌, ◌<◌, map, IfSome, length};
 ghost use Rattle.std.specs.String.{string_bytes};
 ghost use Rattle.cert_text.specs.Fields.{bounds_in};
-ghost use Rattle.mozc_cli.specs.Args.{IsFit, parse, parse_manifest, parse_key, parse_last, query, with_bounds};
+ghost use Rattle.mozc_cli.specs.Args.{IsFit, parse, parse_manifest, parse_key, parse_last, parse_schedule, query, with_bounds};
 
 use world_files::{Bounds, Name, Query};
 
 /// What the words of the command line ask for.
 #[derive(Drop)]
 pub enum Request<'a> {
-    /// To run the client of a manifest.
+    /// To run the clients of a manifest.
     Run(Name<'a>),
+    /// To run the clients of a manifest by the schedule in a file.
+    Replay(Name<'a>, Name<'a>),
     /// To list the data sets of a manifest.
     Check(Name<'a>),
     /// To convert a key, within bounds.
@@ -25,6 +27,9 @@ pub fn parse(words: &[String]) -> Option<Request<'_>>
 {
     match words {
         [command, manifest] => parse_manifest(command.as_str(), manifest.as_str()),
+        [command, manifest, schedule] => {
+            parse_schedule(command.as_str(), manifest.as_str(), schedule.as_str())
+        }
         [command, manifest, set, key] => parse_key(command.as_str(), query(manifest, set, key)),
         [command, manifest, set, key, last] => {
             parse_last(command.as_str(), query(manifest, set, key), last.as_str())
@@ -52,6 +57,16 @@ fn parse_manifest<'a>(command: &str, manifest: &'a str) -> Option<Request<'a>>
     }
     if command == "check" {
         return Some(Request::Check(Name::new(manifest)));
+    }
+    None
+}
+
+fn parse_schedule<'a>(command: &str, manifest: &'a str, schedule: &'a str) -> Option<Request<'a>>
+    ensures told { result ≡ parse_schedule command.now manifest.now schedule.now }
+    ensures fit { IfSome result IsFit }
+{
+    if command == "replay" {
+        return Some(Request::Replay(Name::new(manifest), Name::new(schedule)));
     }
     None
 }

@@ -13,11 +13,13 @@ use mz_base::{Refusal, Status};
 use mz_outside::{Sink, Store};
 use std::alloc::Global;
 
-/// Carries out a command of the program. `run M` runs the client of the manifest M and writes the report; `check M` reads
-/// all data of the manifest M and lists its data sets; `convert M set key`, also with bounds, writes the best path of a key
-/// with its certificate; `verify M set key F` tests the certificate in the file F.
+/// Carries out a command of the program. `run M` runs the clients of the manifest M and writes the report; `replay M F` runs
+/// them by the schedule in the file F, which may be a report; `check M` reads all data of the manifest M and lists its data
+/// sets; `convert M set key`, also with bounds, writes the best path of a key with its certificate; `verify M set key F` tests
+/// the certificate in the file F.
 ///
-/// Files are read in the order of work: the manifest, the script, the data files. After a refusal nothing was written.
+/// Files are read in the order of work: the manifest, the scripts, the data files, the users' dictionaries, and a schedule or a
+/// certificate. After a refusal nothing was written.
 /// Want of memory may stand in place of any answer but `Usage`.
 pub fn local<S: Store, K: Sink>(
     alloc: Global,
@@ -28,8 +30,8 @@ pub fn local<S: Store, K: Sink>(
     // `Usage` comes exactly where the words are no command.
     ensures usage { (result ≡ Status.Usage) ↔ (parse (map string_bytes words.now) ≡ None) }
 
-    // Where the store tells its files, each other status says what they give, and what was written is that: of `run`, the
-    // report of the one-thread run in the order that it prints.
+    // Where the store tells its files, each other status says what they give, and what was written is that: of `run` and
+    // `replay`, the report of the one-thread run of the schedule that it prints.
     ensures settled { (files : Files) (request : Request) → S.files store.old ≡ Some files → parse (map string_bytes words.now) ≡ Some request →
         Settles (Means files request) (K.bytes sink.old) (K.bytes sink.new) result }
 

@@ -1,21 +1,29 @@
-ghost use Rattle.std.specs.Prelude.{◌≡◌, Some};
-ghost use Rattle.mozc_cli.specs.Core.{State, play, run_order, IsComplete};
-ghost use Rattle.world_files.specs.Worlds.{World};
+ghost use Rattle.mozc_cli.specs.Reports.{ReplaysAreReported, RunsAreReported};
 
-use crate::numbers::{FIRST_CLIENT, FIRST_JOB, FIRST_RELOAD, FIRST_USER};
+use run_meaning::{
+    events_are_noted, jobs_are_none_older, journals_are_none_older, run_is_complete, run_is_played,
+    the_last_take_is_used,
+};
 
-/// The order of a run is legal: each of its events is. It is complete: the job, each reload and each command come, the client ends
-/// and the log closes. And the events that its play notes are the order itself.
-pub fn run_order_is_complete()
-    ensures { (world : World) →
-        (state : State) × (play world (run_order world) ≡ Some state) × IsComplete world state × (state.progress.events ≡ run_order world) }
-{}
+/// Each report of a run is the one-thread run of the complete schedule that it prints, the order of a run. In it each client
+/// composes with the data of its last take, and sees nothing older than it saw before.
+pub fn runs_are_reported()
+    ensures { RunsAreReported }
+{
+    run_is_played();
+    run_is_complete();
+    events_are_noted();
+    the_last_take_is_used();
+    jobs_are_none_older();
+    journals_are_none_older();
+}
 
-/// The numbers of the one job, the one client, the one user and the user's first reload. Definitions cite the constants, so a wrong one would move
-/// them along.
-pub fn limits_are()
-    ensures job { FIRST_JOB ≡ 1 }
-    ensures client { FIRST_CLIENT ≡ 1 }
-    ensures user { FIRST_USER ≡ 1 }
-    ensures reload { FIRST_RELOAD ≡ 1 }
-{}
+/// So is each report of a replay, of the schedule in its file, each line of which reads.
+pub fn replays_are_reported()
+    ensures { ReplaysAreReported }
+{
+    events_are_noted();
+    the_last_take_is_used();
+    jobs_are_none_older();
+    journals_are_none_older();
+}

@@ -3,26 +3,29 @@ ghost use Rattle.std.specs.Fmt.{signed_decimal};
 ghost use Rattle.std.specs.String.{string_bytes};
 ghost use Rattle.conversion_meaning.specs.Lattices.{AreBounds, IsKey};
 ghost use Rattle.report.specs.Names.{AreNamed};
-ghost use Rattle.report.specs.Texts.{report_text};
-ghost use Rattle.world_files.specs.Loaded.{HasFewReloads, HasUser, world_of};
+ghost use Rattle.run_meaning.specs.Worlds.{IsWorld};
 ghost use Rattle.world_files.specs.Queries.{query_set, query_claim};
 ghost use Rattle.world_files.specs.Reading.{Files, Reads, Tells};
 ghost use Rattle.mozc_cli.specs.Args.{IsFit};
 ghost use Rattle.mozc_cli.specs.Reported.{shown, TellsMeant};
-ghost use Rattle.mozc_cli.specs.Settles.{Means, MeansVerdict, answered, convert_meant, has_differs, list_output, run_output, run_meant, check_meant, is_unmet, limited, output_of};
+ghost use Rattle.mozc_cli.specs.Settles.{Means, MeansVerdict, answered, check_meant, convert_meant, has_unmet, is_unmet, is_unmet_word, limited, list_output, output_of, replay_meant, replay_output, run_meant, run_output};
 
 use crate::args::Request;
-use crate::run::serve;
+use crate::replay::replay;
 use crate::verdict::verify;
 use converter::convert;
+use core_steps::{Core, World};
 use engine::Engine;
 use mz_base::{Certificate, DataSet, Limit, Line, Logs, NoUserWords, Refusal, Word};
 use mz_outside::Store;
 use report::{MOST_REPORT_BYTES, PrintError};
 use std::alloc::Global;
-use world_files::{Bounds, Loaded, Name, Query, read_claim, read_listing, read_set, read_world};
+use world_files::{
+    Bounds, Name, Query, Replay, played_logs_are_named, read_claim, read_listing, read_replay,
+    read_set, read_world,
+};
 
-/// What a command writes, and whether an expectation was not met in it.
+/// What a command writes, and whether a line of it is unmet.
 #[derive(Drop)]
 pub struct Output {
     pub text: Vec<u8>,
@@ -40,6 +43,7 @@ pub fn output_for<S: Store>(
 {
     match request {
         Request::Run(name) => report_in(alloc, store, name),
+        Request::Replay(name, schedule) => replay_in(alloc, store, name, schedule),
         Request::Check(name) => listing_in(alloc, store, name),
         Request::Convert(query, bounds) => conversion_in(alloc, store, query, bounds),
         Request::Verify(query, name) => verdict_in(alloc, store, query, name),
@@ -52,21 +56,57 @@ fn report_in<S: Store>(alloc: Global, store: &mut S, name: &Name<'_>) -> Result<
 {
     let name = name.to_text(alloc)?;
     let world = read_world(alloc, store, &name)?;
-    report_in_limit(alloc, world)
+    run(alloc, world)
 }
 
-fn report_in_limit(alloc: Global, world: Loaded) -> Result<Output, Refusal>
-    requires user { HasUser world }
-    requires few { HasFewReloads world }
-    ensures told { Tells shown result (limited (run_output (world_of world (⟦<Engine as DataSet>⟧.lists world.set)))) }
+fn replay_in<S: Store>(
+    alloc: Global,
+    store: &mut S,
+    name: &Name<'_>,
+    schedule: &Name<'_>,
+) -> Result<Output, Refusal>
+    ensures told { (files : Files) → S.files store.old ≡ Some files → Tells shown result (replay_meant files name.now schedule.now) }
+    ensures reads { Reads (S.files store.old) (S.files store.new) (S.faults store.old) (S.faults store.new) result }
+{
+    let name = name.to_text(alloc)?;
+    let schedule = schedule.to_text(alloc)?;
+    let given = read_replay(alloc, store, &name, &schedule)?;
+    replayed(alloc, given)
+}
+
+/// The report of a world's run.
+fn run(alloc: Global, world: World<Engine>) -> Result<Output, Refusal>
+    requires { IsWorld world }
+    ensures told { Tells shown result (run_output world) }
     ensures reads_nothing { result ≢ Err Refusal.ReadFault }
 {
-    let Loaded { user, client, set } = world;
-    let logs = serve(alloc, set, user.as_ref(), client.as_ref())?;
-    report_of(alloc, &logs)
+    let mut core = Core::new(alloc, world)?;
+    core.run()?;
+    report_of(alloc, &core)
 }
 
-fn report_of(alloc: Global, logs: &Logs) -> Result<Output, Refusal>
+/// The report of what a schedule leads to.
+fn replayed(alloc: Global, given: Replay) -> Result<Output, Refusal>
+    requires { IsWorld given.world }
+    ensures told { Tells shown result (replay_output given.world given.schedule) }
+    ensures reads_nothing { result ≢ Err Refusal.ReadFault }
+{
+    let core = replay(alloc, given.world, given.schedule.into_vec())?;
+    report_of(alloc, &core)
+}
+
+/// The report of what a core has made.
+fn report_of<D: DataSet + Drop>(alloc: Global, core: &Core<D>) -> Result<Output, Refusal>
+    requires { IsWorld core.now.world }
+    ensures told { Tells shown result (limited (output_of core.now.state.logs)) }
+    ensures reads_nothing { result ≢ Err Refusal.ReadFault }
+{
+    core.is_played();
+    played_logs_are_named();
+    print(alloc, core.logs())
+}
+
+fn print(alloc: Global, logs: &Logs) -> Result<Output, Refusal>
     requires { AreNamed logs.now }
     ensures told { Tells shown result (limited (output_of logs.now)) }
     ensures reads_nothing { result ≢ Err Refusal.ReadFault }
@@ -200,11 +240,17 @@ fn is_unmet(logs: &Logs) -> bool
     logs.clients
         .as_slice()
         .iter()
-        .any(|client| has_differs(client.lines.as_slice()))
+        .any(|client| has_unmet(client.lines.as_slice()))
 }
 
-fn has_differs(lines: &[Line]) -> bool
-    ensures { result ≡ has_differs lines.now }
+fn has_unmet(lines: &[Line]) -> bool
+    ensures { result ≡ has_unmet lines.now }
 {
-    lines.iter().any(|line| line.word == Word::Differs)
+    lines.iter().any(|line| is_unmet_word(line.word))
+}
+
+fn is_unmet_word(word: Word) -> bool
+    ensures { result ≡ is_unmet_word word }
+{
+    matches!(word, Word::Differs | Word::NotYet)
 }

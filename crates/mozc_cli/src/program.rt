@@ -11,7 +11,9 @@ use mz_base::Status;
 use mz_outside::{Sink, write_all};
 
 const HELP: &str = "sockflint run MANIFEST
-Runs the client of the manifest and writes the report on standard output.
+Runs the clients of the manifest and writes the report on standard output.
+sockflint replay MANIFEST FILE
+Runs them by the schedule in a file, or in a report.
 sockflint check MANIFEST
 Reads all data of the manifest and lists its data sets.
 sockflint convert MANIFEST SET KEY [BOUNDS]

@@ -1,10 +1,11 @@
 pub mod BoundLemmas
-pub mod FewReloads
 pub mod LineCounts
 pub mod ListingSteps
 pub mod ReadLaws
-pub mod Served
 pub mod SetFiles
-pub mod UserThere
 pub mod AnswersHold
 pub mod MoreLines
+pub mod JobSteps
+pub mod Worlds
+pub mod EngineLists
+pub mod NamedLogs

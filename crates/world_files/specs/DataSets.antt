@@ -1,9 +1,11 @@
 -- The data sets of a manifest: docs/FORMATS.md, "Data files" and "The listing of data sets".
 use Rattle.std.specs.Prelude.{ℕ, ◌+◌, ◌-◌, ◌==◌, not, List, [], ◌∷◌, ◌++◌, map, filter, Result, Ok, Err, codes, encode_utf8_all, length, slice_index_or}
 use Rattle.std.specs.Fmt.{decimal}
+use Rattle.std.specs.List.{range_with_len}
 use Rattle.mz_base.specs.Answers.{◌>>=◌}
 use Rattle.mz_base.specs.Data.{DataLists}
 use Rattle.mz_base.specs.declared.fault.Fault.{Fault}
+use Rattle.mz_base.specs.declared.status.BadSet.{BadSet}
 use Rattle.engine.specs.Sets.{data_of, has_role}
 use Rattle.engine.specs.declared.files.SetFile.{SetFile}
 use Rattle.world_files.specs.declared.reading.DataFile.{DataFile}
@@ -23,13 +25,30 @@ abbrev pub path_of : List SetFile → Fault → List ℕ
 path_of files fault =
     slice_index_or (map (λ (file : SetFile). file.path) (filter (has_role fault.role) files)) (fault.nth - 1) []
 
--- a set, or the fault of its files
-abbrev pub or_bad : List SetFile → Result DataLists Fault → Result DataLists Refusal
+-- a set, or the file at fault with its fault
+abbrev pub or_bad : List SetFile → Result DataLists Fault → Result DataLists BadSet
 or_bad files (Ok set) = Ok set
-or_bad files (Err fault) = Err (refusal.BadData (record { path = path_of files fault; fault = fault }))
+or_bad files (Err fault) = Err (record { path = path_of files fault; fault = fault })
 
+-- what the files of a set give
+abbrev pub set_of : List SetFile → Result DataLists BadSet
+set_of files = or_bad files (data_of files)
+
+abbrev pub or_refused : Result DataLists BadSet → Result DataLists Refusal
+or_refused (Ok set) = Ok set
+or_refused (Err bad) = Err (refusal.BadData bad)
+
+-- the set of these files, where it has to read
 abbrev pub set_in : List SetFile → Result DataLists Refusal
-set_in files = or_bad files (data_of files)
+set_in files = or_refused (set_of files)
+
+-- what the files of the set of this number give
+abbrev pub job_of : List DataFile → ℕ → Result DataLists BadSet
+job_of files number = set_of (files_of number files)
+
+-- What the files of so many sets give, where the first has to read.
+abbrev pub jobs_of : List DataFile → ℕ → Result (List (Result DataLists BadSet)) Refusal
+jobs_of files count = set_in (files_of 1 files) >>= (λ first. Ok (Ok first ∷ map (job_of files) (range_with_len 2 (count - 1))))
 
 -- a data set and its name
 pub record NamedSet : Type 0 where

@@ -39,7 +39,7 @@ lines_of_set number lines = filter (λ (line : FileLine). line.set == number) li
 unfoldable pub set_files : Files → Query → Result Found Refusal
 set_files files query = do
   key ← short_key query.key
-  start ← opened false files query.manifest
+  start ← opened files query.manifest
   number ← set_number query.set start.manifest.sets
   files_after files [] start.left (lines_of_set number start.manifest.files)
 

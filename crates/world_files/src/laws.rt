@@ -1,9 +1,12 @@
-ghost use Rattle.std.specs.Prelude.{◌≡◌, ◌^◌, ℕ, true, List, Ok};
-ghost use Rattle.scenario.specs.declared.manifest.Manifest.{Manifest};
+ghost use Rattle.std.specs.Prelude.{◌≡◌, ◌^◌, ℕ, List, Some};
 ghost use Rattle.mz_base.specs.Data.{AreDataSound, DataLists};
+ghost use Rattle.mz_base.specs.declared.event.Event.{Event};
 ghost use Rattle.conversion_meaning.specs.Lattices.{AreBounds, IsKey};
+ghost use Rattle.report.specs.Names.{AreNamed};
+ghost use Rattle.run_meaning.specs.Plays.{play};
+ghost use Rattle.run_meaning.specs.States.{State};
+ghost use Rattle.run_meaning.specs.Worlds.{IsWorld, World};
 ghost use Rattle.world_files.specs.Conversions.{AnswerHolds};
-ghost use Rattle.world_files.specs.Unbuilt.{IsServed, manifest_served};
 
 use crate::reading::MOST_READ_BYTES;
 
@@ -12,13 +15,14 @@ pub fn limits_are()
     ensures bytes { MOST_READ_BYTES ≡ 2 ^ 30 }
 {}
 
-/// A manifest that a run serves has one set, at most one user and at most one client, of that user.
-pub fn runs_serve_one_client()
-    ensures { (name bytes : List ℕ) (manifest : Manifest) → manifest_served true name bytes ≡ Ok manifest → IsServed manifest }
-{}
-
 /// What converting a key writes reads as its answer, and testing that by the same data set finds no fault.
 pub fn answers_hold()
     ensures { (set : DataLists) (key bounds : List ℕ) → AreDataSound set → IsKey key → AreBounds key bounds →
         AnswerHolds set key bounds }
+{}
+
+/// The logs of each play name only users, clients and reloads that are there, as a report's text asks.
+pub fn played_logs_are_named()
+    ensures { (world : World) (events : List Event) (state : State) → IsWorld world → play world events ≡ Some state →
+        AreNamed state.logs }
 {}

@@ -92,7 +92,7 @@ fn set_files<S: Store>(alloc: Global, store: &mut S, query: &Query<'_>) -> Resul
     short_key(&query.key)?;
     let path = query.manifest.to_text(alloc)?;
     let set = query.set.to_text(alloc)?;
-    let start = open_manifest(alloc, store, false, &path)?;
+    let start = open_manifest(alloc, store, &path)?;
     let manifest = start.manifest;
     let number = set_number(alloc, &set, manifest.sets.as_slice())?;
     let lines = lines_of_set(alloc, number, manifest.files.into_vec())?;

@@ -1,14 +1,16 @@
-ghost use Rattle.std.specs.Prelude.{◌≡◌, ◌≢◌, ◌<◌, ◌≤◌, ◌^◌, ◌++◌, ◌∷◌, ◌-◌, [], Some, Err, IfOk, OnOk, filter, length, map, slice_get, slice_index_or};
-ghost use Rattle.engine.specs.Sets.{has_role};
-ghost use Rattle.mz_base.specs.Data.{DataLists};
-ghost use Rattle.world_files.specs.DataSets.{files_of, others_of, path_of, or_bad, set_in, sets_after};
-ghost use Rattle.world_files.specs.Reading.{Tells, IsRefusal};
+ghost use Rattle.std.specs.Prelude.{◌≡◌, ◌≢◌, ◌<◌, ◌^◌, ◌++◌, ◌∷◌, ◌-◌, [], Err, IfOk, OnOk, length, map};
+ghost use Rattle.std.specs.List.{range_with_len};
+ghost use Rattle.std.specs.Arc.{arc_value};
+ghost use Rattle.core_steps.specs.JobFiles.{lists_read};
+ghost use Rattle.world_files.specs.DataSets.{files_of, job_of, jobs_of, or_bad, others_of, path_of, set_in, set_of, sets_after};
+ghost use Rattle.world_files.specs.Reading.{Tells};
 
 use crate::reading::DataFile;
 use engine::{BuildError, Engine, SetFile, SetFiles, build, has_role};
 use mz_base::{BadSet, DataSet, Fault, NoMemory, Refusal, Seq, Text};
 use std::alloc::Global;
 use std::marker::Model;
+use std::sync::Arc;
 
 /// A data set and its name.
 #[derive(Drop)]
@@ -32,14 +34,54 @@ struct Split {
     others: Vec<DataFile>,
 }
 
-/// The first data set of the files; else the path of its first file that does not read, and the fault.
-pub fn first_set(alloc: Global, files: Vec<DataFile>) -> Result<Engine, Refusal>
+/// What the files of so many sets give, by number from 1. The first has to read.
+pub fn jobs_of(
+    alloc: Global,
+    files: Vec<DataFile>,
+    count: usize,
+) -> Result<Vec<Result<Arc<Engine>, BadSet>>, Refusal>
     requires few { length files.items < 2 ^ 32 }
-    ensures told { Tells (λ engine. ⟦<Engine as DataSet>⟧.lists engine) result (set_in (files_of 1 files.items)) }
+    requires sets { count < 2 ^ 32 - 1 }
+    ensures told { Tells (λ jobs. map (lists_read (λ set. ⟦<Engine as DataSet>⟧.lists (arc_value set))) jobs.items) result (jobs_of files.items count) }
     ensures reads_nothing { result ≢ Err Refusal.ReadFault }
 {
     let split = split_off(alloc, files, 1)?;
-    set_in(alloc, split.own)
+    let first = set_in(alloc, split.own)?;
+    let mut jobs = Vec::new(alloc);
+    jobs.push(Ok(Arc::new(alloc, first)?))?;
+    add_jobs(alloc, &mut jobs, split.others, count)?;
+    Ok(jobs)
+}
+
+/// What the files of the further sets give.
+fn add_jobs(
+    alloc: Global,
+    jobs: &mut Vec<Result<Arc<Engine>, BadSet>>,
+    files: Vec<DataFile>,
+    count: usize,
+) -> Result<(), NoMemory>
+    requires few { length files.items < 2 ^ 32 }
+    requires sets { count < 2 ^ 32 - 1 }
+    ensures { OnOk result (map (lists_read (λ set. ⟦<Engine as DataSet>⟧.lists (arc_value set))) jobs.new.items ≡ map (lists_read (λ set. ⟦<Engine as DataSet>⟧.lists (arc_value set))) jobs.old.items ++ map (job_of files.items) (range_with_len 2 (count - 1))) }
+{
+    let mut left = files;
+    for place in 1..count {
+        let split = split_off(alloc, left, place as u32 + 1)?;
+        jobs.push(job_in(alloc, split.own)?)?;
+        left = split.others;
+    }
+    Ok(())
+}
+
+/// What the files of a set give, shared.
+fn job_in(alloc: Global, files: Vec<SetFile>) -> Result<Result<Arc<Engine>, BadSet>, NoMemory>
+    requires few { length files.items < 2 ^ 32 }
+    ensures { IfOk result (λ job. lists_read (λ set. ⟦<Engine as DataSet>⟧.lists (arc_value set)) job ≡ set_of files.items) }
+{
+    match set_of(alloc, files)? {
+        Ok(engine) => Ok(Ok(Arc::new(alloc, engine)?)),
+        Err(bad) => Ok(Err(bad)),
+    }
 }
 
 /// The data sets of these names, in order, from their files; else the first that does not read.
@@ -106,24 +148,34 @@ pub fn set_in(alloc: Global, files: Vec<SetFile>) -> Result<Engine, Refusal>
     ensures told { Tells (λ engine. ⟦<Engine as DataSet>⟧.lists engine) result (set_in files.items) }
     ensures reads_nothing { result ≢ Err Refusal.ReadFault }
 {
+    match set_of(alloc, files)? {
+        Ok(engine) => Ok(engine),
+        Err(bad) => Err(Refusal::BadData(bad)),
+    }
+}
+
+/// What the files of a set give.
+fn set_of(alloc: Global, files: Vec<SetFile>) -> Result<Result<Engine, BadSet>, NoMemory>
+    requires few { length files.items < 2 ^ 32 }
+    ensures { IfOk result (λ set. lists_read (λ engine. ⟦<Engine as DataSet>⟧.lists engine) set ≡ set_of files.items) }
+{
     let files = SetFiles {
         files: Seq::from_vec(files),
     };
     match build(alloc, &files) {
-        Ok(engine) => Ok(engine),
-        Err(BuildError::Fault(fault)) => Err(bad_set(alloc, files.files.as_slice(), fault)),
-        Err(BuildError::NoMemory) => Err(Refusal::Memory),
+        Ok(engine) => Ok(Ok(engine)),
+        Err(BuildError::Fault(fault)) => Ok(Err(bad_set(alloc, files.files.as_slice(), fault)?)),
+        Err(BuildError::NoMemory) => Err(NoMemory),
     }
 }
 
-fn bad_set(alloc: Global, files: &[SetFile], fault: Fault) -> Refusal
-    ensures told { IsRefusal result (or_bad files.now (Err fault)) }
-    ensures reads_nothing { result ≢ Refusal.ReadFault }
+fn bad_set(alloc: Global, files: &[SetFile], fault: Fault) -> Result<BadSet, NoMemory>
+    ensures { IfOk result (λ bad. Err bad ≡ or_bad files.now (Err fault)) }
 {
-    match path_of(alloc, files, fault) {
-        Ok(path) => Refusal::BadData(BadSet { path, fault }),
-        Err(NoMemory) => Refusal::Memory,
-    }
+    Ok(BadSet {
+        path: path_of(alloc, files, fault)?,
+        fault,
+    })
 }
 
 /// The path of the file that has the fault, in a copy.

@@ -1,0 +1,6 @@
+use Rattle.world_files.proofs.ReadLaws.{Reads-after}
+use Rattle.mozc_cli.proofs.outputs.replay_in.Goals as goal
+
+pub returns-clause-reads : goal.returns-clause-reads
+returns-clause-reads g c =
+    Reads-after _ _ _ _ _ _ c.in_ok-given.ensures.reads c.replayed.ensures.reads_nothing
